@@ -1,0 +1,52 @@
+-- What a program is.
+use Rattle.std.specs.Prelude.{◌≡◌, ℕ, Bool, nat_eq, true, List, [], ◌∷◌, Option, Some, None, if◌then◌else◌, is_some}
+use Rattle.std.specs.Cmp.Lexicographic.{slice_cmp, pointwise}
+use Rattle.std.specs.Ordering.{nat_cmp, is_lt}
+use Rattle.std.specs.List.{AllByRecursion}
+use Rattle.vx_names.specs.declared.key.DeclKey.{DeclKey}
+use Rattle.vx_names.specs.declared.key.DeclKey.TheVariants as k
+use Rattle.vx_syntax.specs.declared.decl.Decl.{Decl}
+use Rattle.vx_syntax.specs.declared.decl.Decl.TheVariants as d
+
+-- the name that a declaration gives to an object
+abbrev pub name_of : Decl → List ℕ
+name_of (d.Object name parents) = name
+
+abbrev pub parents_of : Decl → List (List ℕ)
+parents_of (d.Object name parents) = parents
+
+-- whether the declaration has the key
+abbrev pub has_key : DeclKey → Decl → Bool
+has_key (k.Object name) decl = pointwise nat_eq (name_of decl) name
+
+-- the declaration that has the key
+abbrev pub find : List Decl → DeclKey → Option Decl
+find [] key = None
+find (decl ∷ decls) key = if has_key key decl then Some decl else find decls key
+
+-- whether there is an object of the name
+abbrev pub is_there : List Decl → List ℕ → Bool
+is_there program name = is_some (find program (k.Object name))
+
+-- keys are ordered by their bytes
+abbrev pub is_before : Decl → Decl → Bool
+is_before a b = is_lt (slice_cmp nat_cmp (name_of a) (name_of b))
+
+-- the name of the prelude's object, from which all others inherit
+abbrev pub any : List ℕ
+any = 97 ∷ 110 ∷ 121 ∷ []
+
+abbrev pub prelude : List Decl
+prelude = d.Object any [] ∷ []
+
+-- each declaration goes before the next
+abbrev pub IsOrdered : List Decl → Type 0
+IsOrdered [] = Unit {0}
+IsOrdered (a ∷ []) = Unit {0}
+IsOrdered (a ∷ b ∷ rest) = (is_before a b ≡ true) × IsOrdered (b ∷ rest)
+
+-- Declarations in key order, each key once; the prelude is among them, and each parent is there.
+pub record IsProgram (program : List Decl) : Type 0 where
+  pub ordered : IsOrdered program
+  pub prelude : find program (k.Object any) ≡ Some (d.Object any [])
+  pub parents : AllByRecursion (λ decl. AllByRecursion (λ parent. is_there program parent ≡ true) (parents_of decl)) program

@@ -1,0 +1,8 @@
+//! Programs as lists of declarations, and edits of them.
+#![tactic(auto)]
+
+mod edit;
+mod program;
+
+pub use edit::{Change, Edit, EditFault};
+pub use program::Program;
