@@ -1,0 +1,53 @@
+-- The replies to a script: one text for each of its blocks, from the edits accepted so far.
+use Rattle.std.specs.Prelude.{◌≡◌, ℕ, ◌+◌, List, [], ◌∷◌, ◌++◌, length, Result, Ok, Err, is_ok, if◌then◌else◌}
+use Rattle.std.specs.Result.{result_unwrap_or}
+use Rattle.vx_names.specs.declared.key.DeclKey.TheVariants as k
+use Rattle.vx_syntax.specs.declared.decl.Decl.{Decl}
+use Rattle.vx_program.specs.declared.edit.Edit.{Edit}
+use Rattle.vx_program.specs.declared.edit.EditFault.{EditFault}
+use Rattle.vx_program.specs.declared.edit.EditFault.TheVariants as f
+use Rattle.vx_program.specs.Program.{prelude}
+use Rattle.vx_program.specs.Apply.{apply}
+use Rattle.vx_reader.specs.declared.command.Command.{Command}
+use Rattle.vx_reader.specs.declared.command.Command.TheVariants as c
+use Rattle.vx_reader.specs.declared.command.ReadFault.{ReadFault}
+use Rattle.vx_reader.specs.declared.command.ReadFault.TheVariants as r
+use Rattle.vx_reader.specs.Reads.{Reads}
+use Rattle.vx_batch.specs.Image.{image_of}
+use Rattle.vx_batch.specs.Text.{accepted_text, exists_text, unknown_text, syntax_text, not_yet_built_text, image_text}
+
+-- the program after these edits, one after the other; one that is refused changes nothing
+abbrev pub after_from : List Decl → List Edit → List Decl
+after_from program [] = program
+after_from program (edit ∷ edits) = after_from (result_unwrap_or (apply program edit.changes) program) edits
+
+-- the program after these edits of the prelude
+abbrev pub after : List Edit → List Decl
+after edits = after_from prelude edits
+
+-- the reply to an edit, after so many accepted ones
+abbrev pub edit_reply : ℕ → Result (List Decl) EditFault → List ℕ
+edit_reply count (Ok program) = accepted_text (count + 1)
+edit_reply count (Err (f.Exists (k.Object name))) = exists_text name
+edit_reply count (Err (f.Unknown name)) = unknown_text name
+edit_reply count (Err f.OutOfMemory) = []
+
+-- The reply to a block that is read so, where the program stands after so many accepted edits. Applying never runs out of memory, and no block is read as want of memory.
+abbrev pub reply : List Decl → ℕ → Result Command ReadFault → List ℕ
+reply program count (Ok c.Blank) = []
+reply program count (Ok c.Image) = image_text count (image_of program)
+reply program count (Ok (c.Edit edit)) = edit_reply count (apply program edit.changes)
+reply program count (Err r.NotYetBuilt) = not_yet_built_text
+reply program count (Err r.Syntax) = syntax_text
+reply program count (Err r.OutOfMemory) = []
+
+-- the accepted edits when a block that is read so was answered
+abbrev pub accepted_with : List Edit → Result Command ReadFault → List Edit
+accepted_with edits (Ok (c.Edit edit)) = if is_ok (apply (after edits) edit.changes) then edits ++ edit ∷ [] else edits
+accepted_with edits answer = edits
+
+-- The texts are the replies to the blocks, in order, when these edits were accepted before.
+abbrev pub AreReplies : List Edit → List (List ℕ) → List (List ℕ) → Type 0
+AreReplies edits [] texts = texts ≡ []
+AreReplies edits (block ∷ blocks) texts =
+    (answer : Result Command ReadFault) × Reads block answer × ((rest : List (List ℕ)) × (texts ≡ reply (after edits) (length edits) answer ∷ rest) × AreReplies (accepted_with edits answer) blocks rest)

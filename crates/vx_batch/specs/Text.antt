@@ -1,0 +1,43 @@
+-- The texts of replies, in lines that end with byte 10.
+use Rattle.std.specs.Prelude.{ℕ, zero, suc, ◌+◌, ◌/◌, List, [], ◌∷◌, ◌++◌, length, take, drop, codes}
+use Rattle.std.specs.Fmt.{decimal}
+use Rattle.std.specs.List.{flat_map}
+use Rattle.hex.specs.Hex.{encode_lower}
+
+abbrev pub line : List ℕ → List ℕ
+line text = text ++ 10 ∷ []
+
+-- after so many edits were accepted
+abbrev pub accepted_text : ℕ → List ℕ
+accepted_text count = line (codes "accepted " ++ decimal count)
+
+-- an edit would take this name, which is taken
+abbrev pub exists_text : List ℕ → List ℕ
+exists_text name = line (codes "refused exists " ++ name)
+
+-- an edit names this object, which is not there
+abbrev pub unknown_text : List ℕ → List ℕ
+unknown_text name = line (codes "refused unknown " ++ name)
+
+abbrev pub syntax_text : List ℕ
+syntax_text = line (codes "refused syntax")
+
+abbrev pub not_yet_built_text : List ℕ
+not_yet_built_text = line (codes "refused not yet built")
+
+-- the first so many pieces of the bytes, each of 32 or of what is left
+abbrev pub pieces : ℕ → List ℕ → List (List ℕ)
+pieces zero bytes = []
+pieces (suc count) bytes = take 32 bytes ∷ pieces count (drop 32 bytes)
+
+-- how many pieces there are of so many bytes, the last of which may be short
+abbrev pub piece_count : ℕ → ℕ
+piece_count len = (len + 31) / 32
+
+-- the bytes in hexadecimal, in lines
+abbrev pub hex_lines : List ℕ → List ℕ
+hex_lines bytes = flat_map (λ piece. line (codes ": " ++ encode_lower piece)) (pieces (piece_count (length bytes)) bytes)
+
+-- an image after so many accepted edits, with the number of its bytes
+abbrev pub image_text : ℕ → List ℕ → List ℕ
+image_text count image = line (codes "image " ++ decimal count ++ codes " " ++ decimal (length image)) ++ hex_lines image

@@ -1,0 +1,111 @@
+//! The image of a program.
+
+ghost use Rattle.std.specs.Prelude.{◌≡◌, ◌++◌, length, filter, IfOk, OnOk};
+ghost use Rattle.std.specs.List.{flat_map};
+ghost use Rattle.vx_batch.specs.Image.{number_bytes, name_bytes, object_bytes, is_own, image_of};
+
+use std::alloc::{AllocError, Global};
+use vx_names::Name;
+use vx_syntax::Decl;
+
+// `VXIC`, and the version of the layout.
+const IMAGE_HEAD: &[u8; 5] = b"VXIC\0";
+
+/// The image of the program of these declarations.
+pub fn image(alloc: Global, decls: &[Decl]) -> Result<Vec<u8>, AllocError>
+    ensures { IfOk result (λ bytes. bytes.items ≡ image_of decls.now) }
+{
+    let mut image = Vec::from_slice(alloc, IMAGE_HEAD)?;
+    append_number(&mut image, own_count(decls))?;
+    for decl in decls {
+        if is_own(decl) {
+            append_object(&mut image, decl)?;
+        }
+    }
+    Ok(image)
+}
+
+// Whether the declaration is no part of the prelude.
+fn is_own(decl: &Decl) -> bool
+    ensures { result ≡ is_own decl.now }
+{
+    match decl {
+        Decl::Object { name, .. } => !matches!(name.bytes(), b"any"),
+    }
+}
+
+fn own_count(decls: &[Decl]) -> usize
+    ensures { result ≡ length (filter is_own decls.now) }
+{
+    decls.iter().filter(|decl| is_own(decl)).count()
+}
+
+fn append_number(image: &mut Vec<u8>, number: usize) -> Result<(), AllocError>
+    ensures { OnOk result (image.new.items ≡ image.old.items ++ number_bytes number) }
+{
+    let number = number.min(u32::MAX as usize) as u32;
+    image.extend_from_slice(&number.to_be_bytes())
+}
+
+fn append_name(image: &mut Vec<u8>, name: &Name) -> Result<(), AllocError>
+    ensures { OnOk result (image.new.items ≡ image.old.items ++ name_bytes name.now) }
+{
+    let bytes = name.bytes();
+    image.push(bytes.len() as u8)?;
+    image.extend_from_slice(bytes)
+}
+
+fn append_names(image: &mut Vec<u8>, names: &[Name]) -> Result<(), AllocError>
+    ensures { OnOk result (image.new.items ≡ image.old.items ++ flat_map name_bytes names.now) }
+{
+    for name in names {
+        append_name(image, name)?;
+    }
+    Ok(())
+}
+
+fn append_object(image: &mut Vec<u8>, decl: &Decl) -> Result<(), AllocError>
+    ensures { OnOk result (image.new.items ≡ image.old.items ++ object_bytes decl.now) }
+{
+    match decl {
+        Decl::Object { name, parents } => {
+            append_name(image, name)?;
+            append_number(image, parents.len())?;
+            append_names(image, parents.as_slice())
+        }
+    }
+}
+
+#[cfg(test)]
+mod tests {
+    use super::*;
+    use sqlite_items::Items;
+    use std::test::Fail;
+    use vx_names::NameFault;
+
+    fn object(alloc: Global, name: &[u8], parents: &[&[u8]]) -> Result<Decl, NameFault> {
+        let mut names = Items::new(alloc);
+        for parent in parents {
+            names.push(Name::new(alloc, parent)?)?;
+        }
+        Ok(Decl::Object {
+            name: Name::new(alloc, name)?,
+            parents: names,
+        })
+    }
+
+    #[test]
+    fn leaves_the_prelude_out(rt: HostRuntime) -> Result<(), Fail> {
+        let alloc = rt.alloc();
+        let decls = vec![in alloc;
+            object(alloc, b"a", &[b"b"])?,
+            object(alloc, b"any", &[])?,
+            object(alloc, b"b", &[b"any"])?,
+        ]?;
+        assert_eq!(rt;
+            image(alloc, decls.as_slice())?.as_slice(),
+            b"VXIC\0\0\0\0\x02\x01a\0\0\0\x01\x01b\x01b\0\0\0\x01\x03any".as_slice(),
+        );
+        Ok(())
+    }
+}

@@ -1,0 +1,80 @@
+ghost use Rattle.std.specs.Prelude.{◌≡◌, ◌+◌, ◌<◌, ◌^◌, ℕ, IfOk};
+ghost use Rattle.vx_program.specs.Program.{prelude};
+ghost use Rattle.vx_batch.specs.Script.{reply};
+ghost use Rattle.vx_batch.specs.Image.{image_of};
+ghost use Rattle.vx_batch.specs.Text.{image_text};
+ghost use Rattle.vx_batch.specs.Steps.{IsAnswered, IsEdited, IsRefusal};
+
+use crate::{image, text};
+use std::alloc::{AllocError, Global};
+use vx_names::DeclKey;
+use vx_program::{Edit, EditFault, Program};
+use vx_reader::{Command, ReadFault, read_block};
+
+/// A script that is being answered: the program, and how many edits made it.
+#[derive(Debug, Drop)]
+pub(crate) struct Session {
+    pub program: Program,
+    pub accepted: u64,
+}
+
+impl Session {
+    pub(crate) fn new(alloc: Global) -> Result<Session, AllocError>
+        ensures program { IfOk result (λ session. session.program ≡ prelude) }
+        ensures accepted { IfOk result (λ session. session.accepted ≡ 0) }
+    {
+        Ok(Session {
+            program: Program::empty(alloc)?,
+            accepted: 0,
+        })
+    }
+
+    /// The reply to a block.
+    pub(crate) fn answer(&mut self, alloc: Global, block: &[u8]) -> Result<Vec<u8>, AllocError>
+        requires { self.old.accepted + 1 < 2 ^ 64 }
+        ensures { IfOk result (λ text. IsAnswered self.old.program self.new.program self.old.accepted self.new.accepted block.now text.items) }
+    {
+        let command = match read_block(alloc, block) {
+            Ok(command) => command,
+            Err(ReadFault::NotYetBuilt) => return text::refused_not_yet_built(alloc),
+            Err(ReadFault::Syntax) => return text::refused_syntax(alloc),
+            Err(ReadFault::OutOfMemory) => return Err(AllocError),
+        };
+        match command {
+            Command::Blank => Ok(Vec::new(alloc)),
+            Command::Edit(edit) => self.edit(alloc, &edit),
+            Command::Image => self.image(alloc),
+        }
+    }
+
+    fn edit(&mut self, alloc: Global, edit: &Edit) -> Result<Vec<u8>, AllocError>
+        requires { self.old.accepted + 1 < 2 ^ 64 }
+        ensures { IfOk result (λ text. IsEdited self.old.program self.new.program self.old.accepted self.new.accepted edit.now text.items) }
+    {
+        let program = match self.program.apply(edit) {
+            Ok(program) => program,
+            Err(fault) => return refusal(alloc, fault),
+        };
+        let text = text::accepted(alloc, self.accepted + 1)?;
+        self.program = program;
+        self.accepted += 1;
+        Ok(text)
+    }
+
+    fn image(&self, alloc: Global) -> Result<Vec<u8>, AllocError>
+        ensures { IfOk result (λ text. text.items ≡ image_text self.now.accepted (image_of self.now.program)) }
+    {
+        let image = image::image(alloc, self.program.declarations())?;
+        text::image(alloc, self.accepted, image.as_slice())
+    }
+}
+
+fn refusal(alloc: Global, fault: EditFault) -> Result<Vec<u8>, AllocError>
+    ensures { IfOk result (λ text. IsRefusal fault text.items) }
+{
+    match fault {
+        EditFault::Exists(DeclKey::Object(name)) => text::refused_exists(alloc, &name),
+        EditFault::Unknown(name) => text::refused_unknown(alloc, &name),
+        EditFault::OutOfMemory => Err(AllocError),
+    }
+}

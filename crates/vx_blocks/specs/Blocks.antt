@@ -1,0 +1,30 @@
+-- How input is cut into lines, and lines into blocks.
+use Rattle.std.specs.Prelude.{ℕ, Bool, nat_eq, ◌==◌, ◌||◌, List, [], ◌∷◌, ◌++◌, if◌then◌else◌}
+use Rattle.std.specs.Cmp.Lexicographic.{pointwise}
+use Rattle.std.specs.List.{onto_first}
+
+-- The lines, each with its byte 10. The last may lack it, and no empty line comes last.
+abbrev pub lines : List ℕ → List (List ℕ)
+lines [] = []
+lines (b ∷ bs) = if b == 10 then (b ∷ []) ∷ lines bs else onto_first b (lines bs)
+
+abbrev pub is_same : List ℕ → List ℕ → Bool
+is_same xs ys = pointwise nat_eq xs ys
+
+-- `.`, or `.` and byte 13, each with byte 10 behind it or without one
+abbrev pub is_end_line : List ℕ → Bool
+is_end_line line = is_same line (46 ∷ []) || is_same line (46 ∷ 10 ∷ []) || is_same line (46 ∷ 13 ∷ []) || is_same line (46 ∷ 13 ∷ 10 ∷ [])
+
+-- the line on the front of the first block, or a block by itself where there is none
+abbrev pub onto_first_block : List ℕ → List (List ℕ) → List (List ℕ)
+onto_first_block line [] = line ∷ []
+onto_first_block line (block ∷ blocks) = (line ++ block) ∷ blocks
+
+-- An end line ends a block, and is no part of one. Another line begins the first block of what follows.
+abbrev pub blocks_of : List (List ℕ) → List (List ℕ)
+blocks_of [] = []
+blocks_of (line ∷ lines) = if is_end_line line then [] ∷ blocks_of lines else onto_first_block line (blocks_of lines)
+
+-- the blocks of the input
+abbrev pub blocks : List ℕ → List (List ℕ)
+blocks bytes = blocks_of (lines bytes)

@@ -1,0 +1,14 @@
+-- The classes of bytes that blocks are made of, besides those of names.
+use Rattle.std.specs.Prelude.{ℕ, Bool, ◌==◌, ◌||◌, not}
+use Rattle.vx_names.specs.Bytes.{is_word_byte}
+
+-- a tab, a line feed, a carriage return or a space
+abbrev pub is_white : ℕ → Bool
+is_white b = b == 9 || b == 10 || b == 13 || b == 32
+
+abbrev pub comma : ℕ
+comma = 44
+
+-- whether the byte stands only in parts of the language that are not read yet
+abbrev pub is_foreign : ℕ → Bool
+is_foreign b = not (is_white b || is_word_byte b || b == comma)

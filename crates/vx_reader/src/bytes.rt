@@ -1,0 +1,44 @@
+ghost use Rattle.std.specs.Prelude.{◌≡◌, length, take_while};
+ghost use Rattle.std.specs.Char.{is_ascii_digit};
+ghost use Rattle.vx_names.specs.Bytes.{is_word_byte};
+ghost use Rattle.vx_reader.specs.Bytes.{is_white, is_foreign};
+
+use vx_names::is_word_byte;
+
+/// Whether the byte is white space.
+pub fn is_white(byte: u8) -> bool
+    ensures { result ≡ is_white byte }
+{
+    matches!(byte, b'\t' | b'\n' | b'\r' | b' ')
+}
+
+/// Whether the byte stands only in parts of the language that are not read yet.
+pub fn is_foreign(byte: u8) -> bool
+    ensures { result ≡ is_foreign byte }
+{
+    !(is_white(byte) || is_word_byte(byte) || byte == b',')
+}
+
+/// How many bytes at the front may stand in an identifier.
+pub fn word_len(bytes: &[u8]) -> usize
+    ensures { result ≡ length (take_while is_word_byte bytes.now) }
+{
+    for (len, byte) in bytes.iter().enumerate() {
+        if !is_word_byte(*byte) {
+            return len;
+        }
+    }
+    bytes.len()
+}
+
+/// How many bytes at the front are digits.
+pub fn number_len(bytes: &[u8]) -> usize
+    ensures { result ≡ length (take_while is_ascii_digit bytes.now) }
+{
+    for (len, byte) in bytes.iter().enumerate() {
+        if !byte.is_ascii_digit() {
+            return len;
+        }
+    }
+    bytes.len()
+}

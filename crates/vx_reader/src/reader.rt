@@ -1,0 +1,99 @@
+ghost use Rattle.std.specs.Prelude.{◌≡◌, IfOk};
+ghost use Rattle.vx_reader.specs.Machine.{meaning};
+ghost use Rattle.vx_reader.specs.Reads as spec;
+
+use crate::bytes::{is_foreign, is_white};
+use crate::command::{Command, ReadFault};
+use crate::machine::{finished, step};
+use crate::state::State;
+use crate::token::{Keyword, Token};
+use crate::tokenizer::tokens;
+use sqlite_items::Items;
+use std::alloc::{AllocError, Global};
+use vx_program::{Change, Edit};
+
+fn is_blank(bytes: &[u8]) -> bool
+    ensures { result ≡ spec.is_blank bytes.now }
+{
+    bytes.iter().all(|byte| is_white(*byte))
+}
+
+fn has_foreign_byte(bytes: &[u8]) -> bool
+    ensures { result ≡ spec.has_foreign_byte bytes.now }
+{
+    bytes.iter().any(|byte| is_foreign(*byte))
+}
+
+fn is_later_word(token: &Token) -> bool
+    ensures { result ≡ spec.is_later_word token.now }
+{
+    match token {
+        Token::Keyword(Keyword::Object | Keyword::Isa) => false,
+        Token::Keyword(_) => true,
+        _ => false,
+    }
+}
+
+fn has_later_word(tokens: &[Token]) -> bool
+    ensures { result ≡ spec.has_later_word tokens.now }
+{
+    tokens.iter().any(is_later_word)
+}
+
+fn begins_with_command(tokens: &[Token]) -> bool
+    ensures { result ≡ spec.begins_with_command tokens.now }
+{
+    match tokens {
+        [Token::Word(word), ..] => {
+            word.bytes() == b"add".as_slice() || word.bytes() == b"image".as_slice()
+        }
+        _ => false,
+    }
+}
+
+fn is_image(tokens: &[Token]) -> bool
+    ensures { result ≡ spec.is_image tokens.now }
+{
+    match tokens {
+        [Token::Word(word)] => word.bytes() == b"image".as_slice(),
+        _ => false,
+    }
+}
+
+// The changes that the tokens mean, if they are an edit.
+fn changes(alloc: Global, tokens: &[Token]) -> Result<Option<Items<Change>>, AllocError>
+    ensures { IfOk result (λ changes. changes ≡ meaning tokens.now) }
+{
+    let mut state = State::Start;
+    for token in tokens {
+        match step(alloc, state, token)? {
+            Some(next) => state = next,
+            None => return Ok(None),
+        }
+    }
+    finished(alloc, state)
+}
+
+/// Reads a block.
+pub fn read_block(alloc: Global, bytes: &[u8]) -> Result<Command, ReadFault>
+    ensures { spec.Says bytes.now result }
+{
+    if is_blank(bytes) {
+        return Ok(Command::Blank);
+    }
+    if has_foreign_byte(bytes) {
+        return Err(ReadFault::NotYetBuilt);
+    }
+    let tokens = tokens(alloc, bytes)?;
+    let tokens = tokens.as_slice();
+    if has_later_word(tokens) || !begins_with_command(tokens) {
+        return Err(ReadFault::NotYetBuilt);
+    }
+    if is_image(tokens) {
+        return Ok(Command::Image);
+    }
+    match changes(alloc, tokens)? {
+        Some(changes) => Ok(Command::Edit(Edit { changes })),
+        None => Err(ReadFault::Syntax),
+    }
+}
