@@ -1,0 +1,5 @@
+//! Tests that go through the whole compiler: scripts in, replies out.
+#![tactic(auto)]
+
+#[cfg(test)]
+mod scripts;

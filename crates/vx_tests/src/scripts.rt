@@ -1,0 +1,110 @@
+use std::alloc::Global;
+use std::test::Fail;
+use vx_batch::{INPUT_BYTES, batch_top};
+use vx_io::{MemSink, MemSource};
+
+// How a script is read and written: the most bytes of a read and of a write, and the number of the
+// read and of the write that fails, if one is to fail.
+#[derive(Drop)]
+struct Way {
+    read: usize,
+    write: usize,
+    failed_read: Option<u64>,
+    failed_write: Option<u64>,
+}
+
+const AT_ONCE: Way = Way {
+    read: 1 << 20,
+    write: 1 << 20,
+    failed_read: None,
+    failed_write: None,
+};
+
+fn listed(alloc: Global, number: Option<u64>) -> Result<Vec<u64>, Fail> {
+    let mut numbers = Vec::new(alloc);
+    if let Some(number) = number {
+        numbers.push(number)?;
+    }
+    Ok(numbers)
+}
+
+// The status of a script that is run so, and what it wrote.
+fn run(alloc: Global, words: &[String], script: &[u8], way: &Way) -> Result<(u8, Vec<u8>), Fail> {
+    let script = script.to_vec(alloc)?;
+    let mut source = MemSource::new(script, way.read.max(1), listed(alloc, way.failed_read)?);
+    let failing = listed(alloc, way.failed_write)?;
+    let mut sink = MemSink::new(alloc, 4096, way.write.max(1), failing)?;
+    let status = batch_top(alloc, words, &mut source, &mut sink);
+    Ok((status, sink.taken().to_vec(alloc)?))
+}
+
+#[test]
+fn each_block_has_its_reply(rt: HostRuntime) -> Result<(), Fail> {
+    let alloc = rt.alloc();
+    for (script, replies) in [
+        ("", ""),
+        ("image", "image 0 9\n: 565849430000000000\n"),
+        (
+            "add object a object b\n.\nimage\n",
+            "accepted 1\nimage 1 29\n: 56584943000000000201610000000103616e7901620000000103616e79\n",
+        ),
+        (
+            "add object b object a isa b\r\n.\r\nimage",
+            "accepted 1\nimage 1 27\n: 565849430000000002016100000001016201620000000103616e79\n",
+        ),
+        (
+            "add object a\n.\nadd object a object b\n.\nadd object b isa zed\n.\nadd a\n.\nlist\n.\nimage\n.",
+            "accepted 1\nrefused exists a\nrefused unknown zed\nrefused syntax\nrefused not yet built\nimage 1 19\n: 56584943000000000101610000000103616e79\n",
+        ),
+        (" \n.\n\t\r\n.\n", ""),
+    ] {
+        let (status, written) = run(alloc, &[], script.as_bytes(), &AT_ONCE)?;
+        assert_eq!(rt; status, 0, "{script}");
+        assert_eq!(rt; written.as_slice(), replies.as_bytes(), "{script}");
+    }
+    Ok(())
+}
+
+#[test]
+fn cutting_and_faults(rt: HostRuntime) -> Result<(), Fail> {
+    let alloc = rt.alloc();
+    let script = b"add object a\n.\nimage";
+    let replies = b"accepted 1\nimage 1 19\n: 56584943000000000101610000000103616e79\n".as_slice();
+    let word = ["--make".to_string(alloc)?];
+    for (words, read, write, failed_read, failed_write, status, taken) in [
+        // Byte by byte, in pieces that split a line end from its full stop, and one byte a write.
+        ([].as_slice(), 1, 4096, None, None, 0, replies),
+        ([].as_slice(), 13, 4096, None, None, 0, replies),
+        ([].as_slice(), 4096, 1, None, None, 0, replies),
+        // A read that fails in the middle, and a write that does.
+        ([].as_slice(), 8, 4096, Some(2), None, 2, b"".as_slice()),
+        ([].as_slice(), 4096, 4, None, Some(1), 3, b"acce".as_slice()),
+        // Words that are not listed.
+        (word.as_slice(), 8, 4096, None, None, 1, b"usage: vortex_batch\n".as_slice()),
+        (word.as_slice(), 8, 4, None, Some(2), 3, b"usage: v".as_slice()),
+    ] {
+        let way = Way {
+            read,
+            write,
+            failed_read,
+            failed_write,
+        };
+        let (end, written) = run(alloc, words, script, &way)?;
+        assert_eq!(rt; end, status);
+        assert_eq!(rt; written.as_slice(), taken);
+    }
+    Ok(())
+}
+
+#[test]
+fn input_ends_at_the_limit(rt: HostRuntime) -> Result<(), Fail> {
+    let alloc = rt.alloc();
+    for (len, status) in [(INPUT_BYTES, 0), (INPUT_BYTES + 1, 5)] {
+        let blanks = vec![in alloc; b' '; len]?;
+        let mut source = MemSource::new(blanks, 65_536, Vec::new(alloc));
+        let mut sink = MemSink::new(alloc, 16, 16, Vec::new(alloc))?;
+        assert_eq!(rt; batch_top(alloc, &[], &mut source, &mut sink), status);
+        assert!(rt; sink.taken().is_empty());
+    }
+    Ok(())
+}
