@@ -6,6 +6,7 @@ use Rattle.vx_names.specs.Bytes.{is_word_byte}
 abbrev pub is_white : ℕ → Bool
 is_white b = b == 9 || b == 10 || b == 13 || b == 32
 
+-- a comma
 abbrev pub comma : ℕ
 comma = 44
 

@@ -60,6 +60,7 @@ step (Named changes name) token = after_name changes name token
 step (Parent changes name parents) token = after_isa changes name parents token
 step (Parents changes name parents) token = after_parent changes name parents token
 
+-- the state after all the tokens, if an edit goes on with each of them
 abbrev pub run : State → List Token → Option State
 run state [] = Some state
 run state (token ∷ ts) = elim (step state token) [ None ↦ None | Some next ↦ run next ts ]

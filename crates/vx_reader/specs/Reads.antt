@@ -29,6 +29,7 @@ is_later_word (k.Keyword w.Isa) = false
 is_later_word (k.Keyword reserved) = true
 is_later_word token = false
 
+-- some token is such a word
 abbrev pub has_later_word : List Token → Bool
 has_later_word ts = list_any is_later_word ts
 

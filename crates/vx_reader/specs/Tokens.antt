@@ -24,11 +24,12 @@ keyword bytes =
     if bytes_eq bytes (codes "var") then Some Var else
     if bytes_eq bytes (codes "resend") then Some Resend else None
 
--- the token that an identifier is, by the reserved word that it spells
+-- the token that an identifier is, by the reserved word that it spells: a name has at most 64 bytes
 abbrev pub spelled : Option Keyword → List ℕ → Token
 spelled (Some reserved) bytes = k.Keyword reserved
 spelled None bytes = if nat_le (length bytes) NAME_BYTES then k.Word bytes else k.Bad
 
+-- the token that an identifier is
 abbrev pub word : List ℕ → Token
 word bytes = spelled (keyword bytes) bytes
 
@@ -55,5 +56,6 @@ tokens_after passed [] = []
 tokens_after (suc passed) (b ∷ bs) = tokens_after passed bs
 tokens_after zero (b ∷ bs) = option_to_list (front (b ∷ bs)).token ++ tokens_after (front (b ∷ bs)).more bs
 
+-- all the tokens of a block
 unfoldable pub tokens : List ℕ → List Token
 tokens bytes = tokens_after zero bytes

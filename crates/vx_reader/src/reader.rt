@@ -74,7 +74,7 @@ fn changes(alloc: Global, tokens: &[Token]) -> Result<Option<Items<Change>>, All
     finished(alloc, state)
 }
 
-/// Reads a block.
+/// Reads a block of bytes as a command.
 pub fn read_block(alloc: Global, bytes: &[u8]) -> Result<Command, ReadFault>
     ensures { spec.Says bytes.now result }
 {

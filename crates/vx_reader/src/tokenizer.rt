@@ -71,6 +71,7 @@ pub fn tokens(alloc: Global, bytes: &[u8]) -> Result<Items<Token>, AllocError>
     while !rest.is_empty() {
         let front = front(alloc, rest)?;
         push_some(&mut tokens, front.token)?;
+        // In two steps, so that no sum can overflow.
         rest = &rest[1..][front.more..];
     }
     Ok(tokens)

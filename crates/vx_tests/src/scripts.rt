@@ -70,19 +70,29 @@ fn cutting_and_faults(rt: HostRuntime) -> Result<(), Fail> {
     let alloc = rt.alloc();
     let script = b"add object a\n.\nimage";
     let replies = b"accepted 1\nimage 1 19\n: 56584943000000000101610000000103616e79\n".as_slice();
-    let word = ["--make".to_string(alloc)?];
-    for (words, read, write, failed_read, failed_write, status, taken) in [
+    let mut word = Vec::new(alloc);
+    word.push("--make".to_string(alloc)?)?;
+    for (has_word, read, write, failed_read, failed_write, status, taken) in [
         // Byte by byte, in pieces that split a line end from its full stop, and one byte a write.
-        ([].as_slice(), 1, 4096, None, None, 0, replies),
-        ([].as_slice(), 13, 4096, None, None, 0, replies),
-        ([].as_slice(), 4096, 1, None, None, 0, replies),
+        (false, 1, 4096, None, None, 0, replies),
+        (false, 13, 4096, None, None, 0, replies),
+        (false, 4096, 1, None, None, 0, replies),
         // A read that fails in the middle, and a write that does.
-        ([].as_slice(), 8, 4096, Some(2), None, 2, b"".as_slice()),
-        ([].as_slice(), 4096, 4, None, Some(1), 3, b"acce".as_slice()),
+        (false, 8, 4096, Some(2), None, 2, b"".as_slice()),
+        (false, 4096, 4, None, Some(1), 3, b"acce".as_slice()),
         // Words that are not listed.
-        (word.as_slice(), 8, 4096, None, None, 1, b"usage: vortex_batch\n".as_slice()),
-        (word.as_slice(), 8, 4, None, Some(2), 3, b"usage: v".as_slice()),
+        (
+            true,
+            8,
+            4096,
+            None,
+            None,
+            1,
+            b"usage: vortex_batch\n".as_slice(),
+        ),
+        (true, 8, 4, None, Some(2), 3, b"usage: v".as_slice()),
     ] {
+        let words = if has_word { word.as_slice() } else { &[] };
         let way = Way {
             read,
             write,
