@@ -1,4 +1,5 @@
 pub mod Lines
 pub mod Reading
+pub mod Replies
 pub mod Rows
-pub mod Scripts
+pub mod Steps

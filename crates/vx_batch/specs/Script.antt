@@ -1,5 +1,5 @@
 -- The replies to a script: one text for each of its blocks, from the edits accepted so far.
-use Rattle.std.specs.Prelude.{◌≡◌, ℕ, ◌+◌, List, [], ◌∷◌, ◌++◌, length, Result, Ok, Err, is_ok, if◌then◌else◌}
+use Rattle.std.specs.Prelude.{◌≡◌, ℕ, ◌+◌, ◌<◌, ◌≤◌, List, [], ◌∷◌, ◌++◌, length, Result, Ok, Err, is_ok, if◌then◌else◌}
 use Rattle.std.specs.Result.{result_unwrap_or}
 use Rattle.vx_names.specs.declared.key.DeclKey.TheVariants as k
 use Rattle.vx_syntax.specs.declared.decl.Decl.{Decl}
@@ -14,7 +14,8 @@ use Rattle.vx_reader.specs.declared.command.ReadFault.{ReadFault}
 use Rattle.vx_reader.specs.declared.command.ReadFault.TheVariants as r
 use Rattle.vx_reader.specs.Reads.{Reads}
 use Rattle.vx_batch.specs.Image.{image_of}
-use Rattle.vx_batch.specs.Text.{accepted_text, exists_text, unknown_text, syntax_text, not_yet_built_text, image_text}
+use Rattle.vx_batch.specs.Text.{accepted_text, exists_text, unknown_text, syntax_text, not_yet_built_text, image_text, too_long_text}
+use Rattle.vx_blocks.specs.declared.block.TheConstants.{BLOCK_BYTES}
 
 -- the program after these edits, one after the other; one that is refused changes nothing
 abbrev pub after_from : List Decl → List Edit → List Decl
@@ -46,8 +47,15 @@ abbrev pub accepted_with : List Edit → Result Command ReadFault → List Edit
 accepted_with edits (Ok (c.Edit edit)) = if is_ok (apply (after edits) edit.changes) then edits ++ edit ∷ [] else edits
 accepted_with edits answer = edits
 
--- The texts are the replies to the blocks, in order, when these edits were accepted before.
-abbrev pub AreReplies : List Edit → List (List ℕ) → List (List ℕ) → Type 0
-AreReplies edits [] texts = texts ≡ []
-AreReplies edits (block ∷ blocks) texts =
-    (answer : Result Command ReadFault) × Reads block answer × ((rest : List (List ℕ)) × (texts ≡ reply (after edits) (length edits) answer ∷ rest) × AreReplies (accepted_with edits answer) blocks rest)
+-- After these accepted edits a block is answered with the text, and then those edits are accepted.
+pub data Answers : List Edit → List ℕ → List ℕ → List Edit → Type 0 where
+  -- a block that is too long is not read
+  too_long : {edits : List Edit} {block : List ℕ} → BLOCK_BYTES < length block → Answers edits block (too_long_text (length block)) edits
+  read : {edits : List Edit} {block : List ℕ} (answer : Result Command ReadFault) → length block ≤ BLOCK_BYTES → Reads block answer →
+      Answers edits block (reply (after edits) (length edits) answer) (accepted_with edits answer)
+
+-- The blocks are answered in order with these texts, from the edits accepted before to those accepted then.
+abbrev pub AreReplies : List Edit → List (List ℕ) → List (List ℕ) → List Edit → Type 0
+AreReplies edits [] texts last = (texts ≡ []) × (last ≡ edits)
+AreReplies edits (block ∷ blocks) texts last =
+    (text : List ℕ) × (next : List Edit) × Answers edits block text next × ((rest : List (List ℕ)) × (texts ≡ text ∷ rest) × AreReplies next blocks rest last)

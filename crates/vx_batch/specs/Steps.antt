@@ -1,6 +1,8 @@
--- One block answered, as the program keeps it: the program and the count of accepted edits in place of the edits.
-use Rattle.std.specs.Prelude.{◌≡◌, ℕ, ◌+◌, List, Result, Ok, Err, is_ok, if◌then◌else◌}
+-- Blocks answered one after the other, as the program keeps its state: the program and a count in place of the accepted edits, and the bytes that are no whole block.
+use Rattle.std.specs.Prelude.{◌≡◌, ℕ, ◌+◌, List, ◌∷◌, ◌++◌, length, Option, Result, Ok, Err, is_ok, if◌then◌else◌, IfSome}
 use Rattle.std.specs.Result.{result_unwrap_or}
+use Rattle.std.specs.List.{concat}
+use Rattle.std.specs.Io.KnownBytes.{Appends}
 use Rattle.vx_syntax.specs.declared.decl.Decl.{Decl}
 use Rattle.vx_program.specs.declared.edit.Edit.{Edit}
 use Rattle.vx_program.specs.declared.edit.EditFault.{EditFault}
@@ -10,7 +12,9 @@ use Rattle.vx_reader.specs.declared.command.Command.{Command}
 use Rattle.vx_reader.specs.declared.command.Command.TheVariants as c
 use Rattle.vx_reader.specs.declared.command.ReadFault.{ReadFault}
 use Rattle.vx_reader.specs.Reads.{Reads}
-use Rattle.vx_batch.specs.Script.{reply, edit_reply}
+use Rattle.vx_blocks.specs.Blocks.{blocks}
+use Rattle.vx_io.specs.Sink.{AppendsPart}
+use Rattle.vx_batch.specs.Script.{after, reply, edit_reply, Answers, AreReplies}
 
 -- the program and the count when an edit was answered
 abbrev pub edited : List Decl → Edit → List Decl
@@ -34,7 +38,7 @@ pub record IsEdited (program next : List Decl) (count next_count : ℕ) (edit : 
   pub kept : next ≡ edited program edit
   pub counts : next_count ≡ counted program count edit
 
--- a block is answered with this text
+-- a block that is not too long is answered with this text
 pub record IsAnswered (program next : List Decl) (count next_count : ℕ) (block text : List ℕ) : Type 0 where
   pub answer : Result Command ReadFault
   pub reads : Reads block answer
@@ -46,3 +50,59 @@ pub record IsAnswered (program next : List Decl) (count next_count : ℕ) (block
 abbrev pub IsRefusal : EditFault → List ℕ → Type 0
 IsRefusal f.OutOfMemory text = ⊥
 IsRefusal fault text = text ≡ edit_reply 0 (Err fault)
+
+-- the program and the count are those of the accepted edits
+pub record IsAfter (program : List Decl) (count : ℕ) (edits : List Edit) : Type 0 where
+  pub program_is : program ≡ after edits
+  pub count_is : count ≡ length edits
+
+-- From the edits on, the blocks that are gone from the old bytes were answered, and the sink took their replies; then the last edits were accepted.
+pub record HasReplied (edits last : List Edit) (old new : List ℕ) (sink_old sink_new : Option (List ℕ)) : Type 0 where
+  pub done : List (List ℕ)
+  pub texts : List (List ℕ)
+  pub replies : AreReplies edits done texts last
+  pub cut : (more : List ℕ) → blocks (old ++ more) ≡ done ++ blocks (new ++ more)
+  pub sent : Appends sink_old sink_new (concat texts)
+
+-- The same up to a block whose reply the sink took in part.
+pub record HasCut (edits : List Edit) (old : List ℕ) (sink_old sink_new : Option (List ℕ)) : Type 0 where
+  pub done : List (List ℕ)
+  pub texts : List (List ℕ)
+  pub last : List Edit
+  pub replies : AreReplies edits done texts last
+  pub block : List ℕ
+  pub text : List ℕ
+  pub next : List Edit
+  pub answers : Answers last block text next
+  pub rest : List ℕ
+  pub cut : (more : List ℕ) → blocks (old ++ more) ≡ done ++ block ∷ blocks (rest ++ more)
+  pub sent : IfSome sink_old (λ before. AppendsPart (before ++ concat texts) sink_new text)
+
+-- The bytes are the last block, or none: it was answered, and the sink took the reply.
+pub record HasFinished (edits : List Edit) (bytes : List ℕ) (sink_old sink_new : Option (List ℕ)) : Type 0 where
+  pub texts : List (List ℕ)
+  pub last : List Edit
+  pub replies : AreReplies edits (blocks bytes) texts last
+  pub sent : Appends sink_old sink_new (concat texts)
+
+-- The sink took the reply to the last block in part.
+pub record HasFinishedInPart (edits : List Edit) (bytes : List ℕ) (sink_old sink_new : Option (List ℕ)) : Type 0 where
+  pub texts : List (List ℕ)
+  pub last : List Edit
+  pub replies : AreReplies edits (blocks bytes) texts last
+  pub sent : IfSome sink_old (λ before. AppendsPart before sink_new (concat texts))
+
+-- One block was answered, and the sink took the reply.
+pub record HasAnsweredBlock (edits : List Edit) (program : List Decl) (count : ℕ) (block : List ℕ) (sink_old sink_new : Option (List ℕ)) : Type 0 where
+  pub text : List ℕ
+  pub next : List Edit
+  pub answers : Answers edits block text next
+  pub state : IsAfter program count next
+  pub sent : Appends sink_old sink_new text
+
+-- One block was answered, and the sink took the reply in part.
+pub record HasCutBlock (edits : List Edit) (block : List ℕ) (sink_old sink_new : Option (List ℕ)) : Type 0 where
+  pub text : List ℕ
+  pub next : List Edit
+  pub answers : Answers edits block text next
+  pub sent : IfSome sink_old (λ before. AppendsPart before sink_new text)

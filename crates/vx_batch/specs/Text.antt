@@ -25,6 +25,10 @@ syntax_text = line (codes "refused syntax")
 abbrev pub not_yet_built_text : List ℕ
 not_yet_built_text = line (codes "refused not yet built")
 
+-- a block has so many bytes, more than are read
+abbrev pub too_long_text : ℕ → List ℕ
+too_long_text len = line (codes "refused block too long " ++ decimal len)
+
 -- the first so many pieces of the bytes, each of 32 or of what is left
 abbrev pub pieces : ℕ → List ℕ → List (List ℕ)
 pieces zero bytes = []

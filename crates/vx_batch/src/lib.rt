@@ -2,11 +2,11 @@
 #![tactic(auto)]
 
 pub mod image;
-mod input;
+mod pieces;
 mod script;
 mod session;
 pub mod text;
 mod top;
 
-pub use input::INPUT_BYTES;
+pub use pieces::{INPUT_BYTES, PIECE_BYTES};
 pub use top::{Status, batch_top};

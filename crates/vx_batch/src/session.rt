@@ -1,12 +1,15 @@
-ghost use Rattle.std.specs.Prelude.{◌≡◌, ◌+◌, ◌<◌, ◌^◌, ℕ, IfOk};
+ghost use Rattle.std.specs.Prelude.{◌≡◌, ◌+◌, ◌<◌, ◌≤◌, ◌^◌, ℕ, List, IfOk};
 ghost use Rattle.vx_program.specs.Program.{prelude};
-ghost use Rattle.vx_batch.specs.Script.{reply};
+ghost use Rattle.vx_batch.specs.Script.{reply, Answers};
+ghost use Rattle.vx_blocks.specs.Block.{IsBlock};
+ghost use Rattle.vx_program.specs.declared.edit.Edit.{Edit};
 ghost use Rattle.vx_batch.specs.Image.{image_of};
 ghost use Rattle.vx_batch.specs.Text.{image_text};
-ghost use Rattle.vx_batch.specs.Steps.{IsAnswered, IsEdited, IsRefusal};
+ghost use Rattle.vx_batch.specs.Steps.{IsAnswered, IsEdited, IsRefusal, IsAfter};
 
 use crate::{image, text};
 use std::alloc::{AllocError, Global};
+use vx_blocks::Block;
 use vx_names::DeclKey;
 use vx_program::{Edit, EditFault, Program};
 use vx_reader::{Command, ReadFault, read_block};
@@ -30,9 +33,30 @@ impl Session {
     }
 
     /// The reply to a block.
-    pub(crate) fn answer(&mut self, alloc: Global, block: &[u8]) -> Result<Vec<u8>, AllocError>
+    pub(crate) fn answer(&mut self, alloc: Global, block: &Block) -> Result<Vec<u8>, AllocError>
         requires { self.old.accepted + 1 < 2 ^ 64 }
-        ensures { IfOk result (λ text. IsAnswered self.old.program self.new.program self.old.accepted self.new.accepted block.now text.items) }
+        ensures answers { IfOk result (λ text. (edits : List Edit) (bytes : List ℕ) → IsBlock block.now bytes
+            → IsAfter self.old.program self.old.accepted edits
+            → (next : List Edit) × Answers edits bytes text.items next × IsAfter self.new.program self.new.accepted next) }
+        ensures counted { self.new.accepted ≤ self.old.accepted + 1 }
+    {
+        match block {
+            Block::Whole(bytes) => {
+                let reply = self.read(alloc, bytes.as_slice())?;
+                Ok(reply)
+            }
+            Block::TooLong(len) => {
+                let refusal = text::refused_too_long(alloc, *len)?;
+                Ok(refusal)
+            }
+        }
+    }
+
+    // The reply to a block that is not too long.
+    fn read(&mut self, alloc: Global, block: &[u8]) -> Result<Vec<u8>, AllocError>
+        requires { self.old.accepted + 1 < 2 ^ 64 }
+        ensures counted { self.new.accepted ≤ self.old.accepted + 1 }
+        ensures answered { IfOk result (λ text. IsAnswered self.old.program self.new.program self.old.accepted self.new.accepted block.now text.items) }
     {
         let command = match read_block(alloc, block) {
             Ok(command) => command,
@@ -49,7 +73,8 @@ impl Session {
 
     fn edit(&mut self, alloc: Global, edit: &Edit) -> Result<Vec<u8>, AllocError>
         requires { self.old.accepted + 1 < 2 ^ 64 }
-        ensures { IfOk result (λ text. IsEdited self.old.program self.new.program self.old.accepted self.new.accepted edit.now text.items) }
+        ensures counted { self.new.accepted ≤ self.old.accepted + 1 }
+        ensures edited { IfOk result (λ text. IsEdited self.old.program self.new.program self.old.accepted self.new.accepted edit.now text.items) }
     {
         let program = match self.program.apply(edit) {
             Ok(program) => program,

@@ -1,7 +1,7 @@
 //! The texts of replies.
 
 ghost use Rattle.std.specs.Prelude.{◌≡◌, ◌++◌, IfOk, OnOk};
-ghost use Rattle.vx_batch.specs.Text.{line, accepted_text, exists_text, unknown_text, syntax_text, not_yet_built_text, image_text, hex_lines};
+ghost use Rattle.vx_batch.specs.Text.{line, accepted_text, exists_text, unknown_text, syntax_text, not_yet_built_text, image_text, too_long_text, hex_lines};
 
 use std::alloc::{AllocError, Global};
 use vx_names::Name;
@@ -46,6 +46,17 @@ pub fn refused_not_yet_built(alloc: Global) -> Result<Vec<u8>, AllocError>
     ensures { IfOk result (λ text. text.items ≡ not_yet_built_text) }
 {
     one_line(alloc, b"refused not yet built", b"")
+}
+
+/// Refuses a block with so many bytes, more than are read.
+pub fn refused_too_long(alloc: Global, len: u64) -> Result<Vec<u8>, AllocError>
+    ensures { IfOk result (λ text. text.items ≡ too_long_text len) }
+{
+    one_line(
+        alloc,
+        b"refused block too long ",
+        format!(in alloc; "{len}")?.as_bytes(),
+    )
 }
 
 /// Shows an image after so many accepted edits.

@@ -2,13 +2,13 @@ ghost use Rattle.std.specs.Prelude.{◌≡◌, ◌≢◌, ◌≤◌, ◌<◌, �
 ghost use Rattle.std.specs.Io.KnownBytes.{Appends};
 ghost use Rattle.vx_io.specs.Faults.{HasRisen};
 ghost use Rattle.vx_io.specs.Sink.{AppendsPart};
-ghost use Rattle.vx_batch.specs.Ends.{HasReplies, HasFront, given, usage_line};
+ghost use Rattle.vx_batch.specs.Ends.{HasReplies, HasFront, HasAnsweredTaken, HasAnsweredFed, given, usage_line};
 
-use crate::input::{INPUT_BYTES, Input, read_all};
-use crate::script::{Stop, answer_all};
+use crate::pieces::{End, INPUT_BYTES, answer_source};
+use crate::script::Stop;
 use std::alloc::Global;
 use vx_io::{Sink, Source, write_all};
-use vx_reader::{every_block_is_read, one_reading};
+use vx_reader::one_reading;
 
 const USAGE: &[u8] = b"usage: vortex_batch\n";
 
@@ -28,10 +28,10 @@ pub enum Status {
     TooLong = 5,
 }
 
-/// The batch compiler: reads a script to its end and writes the reply to each of its blocks. It
-/// answers with the status: 0 where all is answered, 1 where the words are not listed and it wrote
-/// the usage line, 2 where a read failed and 3 where a write did, 4 where memory ran out, 5 where the
-/// input has more than [`INPUT_BYTES`]. No words are listed so far.
+/// The batch compiler: reads a script piece by piece and writes the reply to each of its blocks, each
+/// as soon as the block is whole. It answers with the status: 0 where all is answered, 1 where the
+/// words are not listed and it wrote the usage line, 2 where a read failed and 3 where a write did, 4
+/// where memory ran out, 5 where the input has more than [`INPUT_BYTES`]. No words are listed so far.
 pub fn batch_top<S: Source, K: Sink>(
     alloc: Global,
     words: &[String],
@@ -55,9 +55,10 @@ pub fn batch_top<S: Source, K: Sink>(
     ensures usage_always { words.now ≢ [] → (result ≡ 1) ⊎ (result ≡ 3) }
     ensures unread { words.now ≢ [] → S.left source.new ≡ S.left source.old }
 
-    // 2: a read failed, and nothing was written.
+    // 2: a read failed, and each block that is whole in the bytes taken has its reply.
     ensures read_failed { result ≡ 2 → HasRisen (S.faults source.old) (S.faults source.new) }
-    ensures read_failed_silent { result ≡ 2 → K.taken sink.new ≡ K.taken sink.old }
+    ensures read_failed_answered { result ≡ 2 → IfSome (S.left source.old) (λ all. IfSome (K.taken sink.old)
+        (λ before. HasAnsweredTaken all (S.left source.new) before (K.taken sink.new))) }
 
     // 3: a write failed, and the sink has a front of what was to be written, but not all of it.
     ensures write_failed { result ≡ 3 → HasRisen (K.faults sink.old) (K.faults sink.new) }
@@ -69,9 +70,10 @@ pub fn batch_top<S: Source, K: Sink>(
     ensures memory { result ≡ 4 → IfSome (S.left source.old) (λ input. IfSome (K.taken sink.old)
         (λ before. (wanting : List ℕ) × HasFront input before (K.taken sink.new) wanting)) }
 
-    // 5: more bytes were taken than are read, and nothing was written.
+    // 5: more bytes were taken than are read, the last piece among them; each block that is whole in those before it has its reply.
     ensures too_long { words.now ≡ [] → IfSome (S.left source.old) (λ all. (result ≡ 5) ↔ (INPUT_BYTES < given all (S.left source.new))) }
-    ensures too_long_silent { result ≡ 5 → K.taken sink.new ≡ K.taken sink.old }
+    ensures too_long_answered { result ≡ 5 → IfSome (S.left source.old) (λ all. IfSome (K.taken sink.old)
+        (λ before. HasAnsweredFed all (S.left source.new) before (K.taken sink.new))) }
 
     // Without a fault, and within the limit, all is answered unless memory runs out.
     ensures complete { words.now ≡ []
@@ -79,7 +81,6 @@ pub fn batch_top<S: Source, K: Sink>(
         → (HasRisen (K.faults sink.old) (K.faults sink.new) → ⊥)
         → IfSome (S.left source.old) (λ all. given all (S.left source.new) ≤ INPUT_BYTES → (result ≡ 0) ⊎ (result ≡ 4)) }
 {
-    every_block_is_read();
     one_reading();
     if !words.is_empty() {
         return match write_all(sink, USAGE) {
@@ -87,14 +88,11 @@ pub fn batch_top<S: Source, K: Sink>(
             Err(_) => Status::WriteFailed as u8,
         };
     }
-    match read_all(alloc, source) {
-        Input::Whole(input) => match answer_all(alloc, input.as_slice(), sink) {
-            Ok(()) => Status::Answered as u8,
-            Err(Stop::WriteFailed) => Status::WriteFailed as u8,
-            Err(Stop::OutOfMemory) => Status::OutOfMemory as u8,
-        },
-        Input::Failed => Status::ReadFailed as u8,
-        Input::TooLong => Status::TooLong as u8,
-        Input::OutOfMemory => Status::OutOfMemory as u8,
+    match answer_source(alloc, source, sink) {
+        End::Answered => Status::Answered as u8,
+        End::ReadFailed => Status::ReadFailed as u8,
+        End::TooLong => Status::TooLong as u8,
+        End::Stopped(Stop::WriteFailed) => Status::WriteFailed as u8,
+        End::Stopped(Stop::OutOfMemory) => Status::OutOfMemory as u8,
     }
 }

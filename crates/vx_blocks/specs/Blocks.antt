@@ -1,7 +1,7 @@
 -- How input is cut into lines, and lines into blocks.
 use Rattle.std.specs.Prelude.{ℕ, Bool, nat_eq, ◌==◌, ◌||◌, List, [], ◌∷◌, ◌++◌, if◌then◌else◌}
 use Rattle.std.specs.Cmp.Lexicographic.{pointwise}
-use Rattle.std.specs.List.{onto_first}
+use Rattle.std.specs.List.{onto_first, list_any}
 
 -- The lines, each with its byte 10. The last may lack it, and no empty line comes last.
 abbrev pub lines : List ℕ → List (List ℕ)
@@ -28,3 +28,11 @@ blocks_of (line ∷ lines) = if is_end_line line then [] ∷ blocks_of lines els
 -- the blocks of the input
 abbrev pub blocks : List ℕ → List (List ℕ)
 blocks bytes = blocks_of (lines bytes)
+
+-- `.`, or `.` and byte 13, with byte 10 behind it
+abbrev pub is_whole_end_line : List ℕ → Bool
+is_whole_end_line line = is_same line (46 ∷ 10 ∷ []) || is_same line (46 ∷ 13 ∷ 10 ∷ [])
+
+-- whether some line ends a block, whatever comes behind the bytes
+abbrev pub has_end_line : List ℕ → Bool
+has_end_line bytes = list_any is_whole_end_line (lines bytes)

@@ -1,1 +1,4 @@
+pub mod Block
 pub mod Blocks
+pub mod Runs
+pub mod Search

@@ -77,8 +77,9 @@ fn cutting_and_faults(rt: HostRuntime) -> Result<(), Fail> {
         (false, 1, 4096, None, None, 0, replies),
         (false, 13, 4096, None, None, 0, replies),
         (false, 4096, 1, None, None, 0, replies),
-        // A read that fails in the middle, and a write that does.
-        (false, 8, 4096, Some(2), None, 2, b"".as_slice()),
+        // A read that fails in the middle, after a whole block, and a write that does.
+        (false, 8, 4096, Some(1), None, 2, b"".as_slice()),
+        (false, 8, 4096, Some(2), None, 2, b"accepted 1\n".as_slice()),
         (false, 4096, 4, None, Some(1), 3, b"acce".as_slice()),
         // Words that are not listed.
         (
@@ -107,14 +108,41 @@ fn cutting_and_faults(rt: HostRuntime) -> Result<(), Fail> {
 }
 
 #[test]
+fn long_blocks_are_passed_over(rt: HostRuntime) -> Result<(), Fail> {
+    let alloc = rt.alloc();
+    for (blanks, reply) in [
+        (1_048_563, "accepted 1\n"),
+        (1_048_564, "refused block too long 1048577\n"),
+    ] {
+        let mut script = b"add object a".as_slice().to_vec(alloc)?;
+        for _ in 0..blanks {
+            script.push(b' ')?;
+        }
+        script.extend_from_slice(b"\n.\nadd object b isa a\n.\n-- a comment\n.\nimage zed")?;
+        let mut source = MemSource::new(script, 4096, Vec::new(alloc));
+        let mut sink = MemSink::new(alloc, 4096, 4096, Vec::new(alloc))?;
+        assert_eq!(rt; batch_top(alloc, &[], &mut source, &mut sink), 0);
+        assert!(rt; sink.taken().starts_with(reply.as_bytes()));
+        assert!(rt;
+            sink.taken()
+                .ends_with(b"\nrefused not yet built\nrefused syntax\n")
+        );
+    }
+    Ok(())
+}
+
+#[test]
 fn input_ends_at_the_limit(rt: HostRuntime) -> Result<(), Fail> {
     let alloc = rt.alloc();
-    for (len, status) in [(INPUT_BYTES, 0), (INPUT_BYTES + 1, 5)] {
+    for (len, status, reply) in [
+        (INPUT_BYTES, 0, "refused block too long 67108864\n"),
+        (INPUT_BYTES + 1, 5, ""),
+    ] {
         let blanks = vec![in alloc; b' '; len]?;
         let mut source = MemSource::new(blanks, 65_536, Vec::new(alloc));
-        let mut sink = MemSink::new(alloc, 16, 16, Vec::new(alloc))?;
+        let mut sink = MemSink::new(alloc, 64, 64, Vec::new(alloc))?;
         assert_eq!(rt; batch_top(alloc, &[], &mut source, &mut sink), status);
-        assert!(rt; sink.taken().is_empty());
+        assert_eq!(rt; sink.taken(), reply.as_bytes());
     }
     Ok(())
 }
