@@ -1,1 +1,2 @@
+mod Operators
 pub mod Identifiers

@@ -1,8 +1,10 @@
-//! Names of objects, methods, fields and variables, and the keys of declarations, with their order.
+//! Names of objects, methods, fields and variables, operators among them, and the keys of declarations, with their order.
 #![tactic(auto)]
 
 mod key;
 mod name;
+mod operator;
 
 pub use key::DeclKey;
 pub use name::{NAME_BYTES, Name, NameFault, is_letter, is_word_byte};
+pub use operator::{Operator, operators_are_names};

@@ -4,16 +4,17 @@ ghost use Rattle.std.specs.Cmp.{partial_order_from_own_ties};
 ghost use Rattle.std.specs.Cmp.Lexicographic.{slice_cmp, pointwise};
 ghost use Rattle.std.specs.Cmp.Rules.{comparing};
 ghost use Rattle.std.proofs.Common.{rules};
-ghost use Rattle.vx_names.specs.Bytes.{is_letter, is_word_byte, goes_on};
-ghost use Rattle.vx_names.specs.Name.{IsName, IsIdentifier, IsBadPlace};
+ghost use Rattle.vx_names.specs.Bytes.{is_letter, is_word_byte};
+ghost use Rattle.vx_names.specs.Name.{IsName, IsBadPlace, goes_on};
 ghost use Rattle.vx_names.specs.declared.name.NameFault.TheVariants.{OutOfMemory};
 
+use crate::operator::Operator;
 use sqlite_items::Items;
 use std::alloc::{AllocError, Global};
 use std::cmp::Ordering;
 use std::marker::Model;
 
-/// The most bytes that a name has.
+/// The most bytes that an identifier has.
 pub const NAME_BYTES: usize = 64;
 
 /// Why bytes are no name. Lengths and places are in bytes.
@@ -36,21 +37,21 @@ impl From<AllocError> for NameFault {
     }
 }
 
-/// Whether a name may begin with the byte.
+/// Whether an identifier may begin with the byte.
 pub fn is_letter(byte: u8) -> bool
     ensures { result ≡ is_letter byte }
 {
     byte.is_ascii_alphabetic() || byte == b'_'
 }
 
-/// Whether a name may go on with the byte.
+/// Whether an identifier may go on with the byte.
 pub fn is_word_byte(byte: u8) -> bool
     ensures { result ≡ is_word_byte byte }
 {
     is_letter(byte) || byte.is_ascii_digit()
 }
 
-/// A name, which contracts see as its bytes. Names are ordered by their bytes.
+/// An identifier or an operator, which contracts see as its bytes. Names are ordered by their bytes.
 #[derive(Debug, Drop)]
 pub struct Name {
     bytes: Items<u8>,
@@ -104,26 +105,27 @@ impl Name {
     }
 }
 
-// Whether an identifier has the byte at the place.
-fn goes_on(place: usize, byte: u8) -> bool
-    ensures { result ≡ goes_on place byte }
+// Whether an identifier or an operator that has the bytes before the place has the one there too.
+fn goes_on(bytes: &[u8], place: usize) -> bool
+    requires { place < length bytes.now }
+    ensures { result ≡ goes_on bytes.now place }
 {
-    if place == 0 {
-        is_letter(byte)
+    if is_letter(bytes[0]) {
+        is_word_byte(bytes[place])
     } else {
-        is_word_byte(byte)
+        Operator::from_bytes(&bytes[..place + 1]).is_some()
     }
 }
 
-// The first place at which an identifier does not go on.
+// The first place at which neither an identifier nor an operator goes on.
 fn bad_place(bytes: &[u8]) -> Option<usize>
     requires some { 0 < length bytes.now }
     requires short { length bytes.now ≤ NAME_BYTES }
     ensures bad { IfSome result (IsBadPlace bytes.now) }
-    ensures none { IsNone result ↔ IsIdentifier bytes.now }
+    ensures none { IsNone result ↔ IsName bytes.now }
 {
-    for (place, byte) in bytes.iter().enumerate() {
-        if !goes_on(place, *byte) {
+    for place in 0..bytes.len() {
+        if !goes_on(bytes, place) {
             return Some(place);
         }
     }

@@ -6,6 +6,7 @@ use Rattle.vx_program.specs.declared.edit.Change.{Change}
 use Rattle.vx_program.specs.declared.edit.Change.TheVariants as c
 use Rattle.vx_reader.specs.declared.token.Token.{Token}
 use Rattle.vx_reader.specs.declared.token.Token.TheVariants as k
+use Rattle.vx_reader.specs.declared.token.Mark.TheVariants.{Comma}
 use Rattle.vx_reader.specs.declared.state.State.{State}
 use Rattle.vx_reader.specs.declared.state.State.TheVariants as st
 use Rattle.vx_reader.specs.Grammar as g
@@ -56,7 +57,7 @@ is_no_comma before name parents (r.over (r.goes_on (g.next_change (g.addition de
 
 -- after one more parent, other parents follow
 more_names : (changes : List Change) (name : List ℕ) (parents : List (List ℕ)) (parent : List ℕ) {more : List (List ℕ)} {all : List Change} {ts us : List Token} → g.IsNames ts us more →
-    AfterDecl (with_object changes name (parents ++ parent ∷ more)) us all → Remains (st.Parents changes name (parents ++ parent ∷ [])) (k.Comma ∷ ts) all
+    AfterDecl (with_object changes name (parents ++ parent ∷ more)) us all → Remains (st.Parents changes name (parents ++ parent ∷ [])) (k.Mark Comma ∷ ts) all
 more_names changes name parents parent {more} {all} {us = us} names after =
     r.more_parents names (subst (λ l. AfterDecl (with_object changes name l) us all) (sym (append_assoc parents (parent ∷ []) more)) after)
 

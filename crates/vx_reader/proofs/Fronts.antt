@@ -1,82 +1,93 @@
 -- What bytes begin with, and the tokens behind it.
-use Rattle.std.proofs.Common.{◌≡◌, ℕ, Bool, zero, suc, ◌==◌, ◌+◌, ◌-◌, ◌<◌, true, false, List, [], ◌∷◌, ◌++◌, length, take, drop, get_or, take_while, option_to_list, Some, None, refl, sym, ◌∙◌, ap, arith, append_assoc, append-nil}
-use Rattle.std.proofs.lemmas.Bool.{eqb-true}
+use Rattle.std.proofs.Common.{◌≡◌, ℕ, Bool, zero, suc, ◌==◌, ◌+◌, ◌-◌, ◌<◌, ◌≤◌, true, false, List, [], ◌∷◌, ◌++◌, length, take, drop, get_or, refl, sym, ◌∙◌, ap, arith, add-zero, add-one, subst, length-drop, append_assoc, append-nil}
+use Rattle.std.proofs.lemmas.Bool.{eqb-true, eq-eqb, ne_eqb}
 use Rattle.std.proofs.lemmas.List.{take_rest}
-use Rattle.std.specs.Char.{is_ascii_digit}
-use Rattle.vx_names.specs.Bytes.{is_letter, is_word_byte}
-use Rattle.vx_names.specs.Name.{IsIdentifier}
 use Rattle.vx_reader.specs.declared.token.Front.{Front}
-use Rattle.vx_reader.specs.declared.token.Token.{Token}
-use Rattle.vx_reader.specs.declared.token.Token.TheVariants as k
-use Rattle.vx_reader.specs.Bytes.{is_white}
-use Rattle.vx_reader.specs.Tokens.{word, mark, begun, front, tokens_after, tokens}
-use Rattle.vx_reader.proofs.Runs.{first_and_run, letter_and_run}
+use Rattle.vx_reader.specs.declared.token.Placed.{Placed}
+use Rattle.vx_names.specs.Bytes.{is_letter}
+use Rattle.std.specs.Char.{is_ascii_digit}
+use Rattle.vx_reader.specs.Bytes.{is_white, quote}
+use Rattle.vx_reader.specs.Strings.{quoted}
+use Rattle.vx_reader.specs.Tokens.{passes, word_front, number_front, text_front, begins_comment, comment_front, sign_front, begun, front, at, tokens_after, placed_tokens}
 
 -- the bytes behind the first one, as code takes them
 abbrev pub behind : List ℕ → List ℕ
 behind bytes = take (length bytes - 1) (drop 1 bytes)
 
-behind_cons : (b : ℕ) (bs : List ℕ) → behind (b ∷ bs) ≡ bs
-behind_cons b bs = take_rest (b ∷ bs) 1
-
-front_cons : (bytes : List ℕ) → 0 < length bytes → front bytes ≡ begun (get_or bytes 0 0) (behind bytes)
+pub front_is : (bytes : List ℕ) → 0 < length bytes → front bytes ≡ begun (get_or bytes 0 0) bytes
 unfolding front
-front_cons [] some = absurd (omega arith)
-front_cons (b ∷ bs) some = ap (begun b) (sym (behind_cons b bs))
+front_is [] some = absurd (omega arith)
+front_is (b ∷ bs) some = refl
 
-pub front_white : (bytes : List ℕ) → 0 < length bytes → is_white (get_or bytes 0 0) ≡ true → ◌≡◌ {A = Front} (record { token = None; more = 0 }) (front bytes)
-front_white bytes some white = sym (front_cons bytes some ∙ rw white)
+-- what begins there, by the first byte
+pub white_begins : (bytes : List ℕ) (f : Front) → 0 < length bytes → is_white (get_or bytes 0 0) ≡ true → f ≡ passes 1 → f ≡ front bytes
+white_begins bytes f some white is = is ∙ sym (front_is bytes some ∙ rw white refl)
 
-pub word_token : (bytes : List ℕ) → 0 < length bytes → is_letter (get_or bytes 0 0) ≡ true →
-    IsIdentifier (take (length (take_while is_word_byte (behind bytes)) + 1) bytes)
-word_token [] some letter = absurd (omega arith)
-word_token (b ∷ bs) some letter =
-    rw (behind_cons b bs, first_and_run is_word_byte b bs) (letter_and_run b bs letter)
+pub word_begins : (bytes : List ℕ) (f : Front) → 0 < length bytes → is_white (get_or bytes 0 0) ≡ false → is_letter (get_or bytes 0 0) ≡ true →
+    f ≡ word_front bytes → f ≡ front bytes
+word_begins bytes f some white letter is = is ∙ sym (front_is bytes some ∙ rw (white, letter) refl)
 
-begun_word : (b : ℕ) (bs : List ℕ) (token : Token) (more : ℕ) → is_white b ≡ false → is_letter b ≡ true →
-    more ≡ length (take_while is_word_byte bs) → token ≡ word (take (more + 1) (b ∷ bs)) → begun b bs ≡ record { token = Some token; more = more }
-begun_word b bs token more white letter len is = rw (white, letter, is, len, first_and_run is_word_byte b bs)
+pub number_begins : (bytes : List ℕ) (f : Front) → 0 < length bytes → is_white (get_or bytes 0 0) ≡ false → is_letter (get_or bytes 0 0) ≡ false →
+    is_ascii_digit (get_or bytes 0 0) ≡ true → f ≡ number_front bytes → f ≡ front bytes
+number_begins bytes f some white letter digit is = is ∙ sym (front_is bytes some ∙ rw (white, letter, digit) refl)
 
-pub front_word : (bytes : List ℕ) (token : Token) (more : ℕ) → 0 < length bytes → is_white (get_or bytes 0 0) ≡ false → is_letter (get_or bytes 0 0) ≡ true →
-    more ≡ length (take_while is_word_byte (behind bytes)) → token ≡ word (take (more + 1) bytes) →
-    ◌≡◌ {A = Front} (record { token = Some token; more = more }) (front bytes)
-unfolding front
-front_word [] token more some white letter len is = absurd (omega arith)
-front_word (b ∷ bs) token more some white letter len is = sym (begun_word b bs token more white letter (len ∙ ap (λ l. length (take_while is_word_byte l)) (behind_cons b bs)) is)
+pub text_begins : (bytes : List ℕ) (f : Front) → 0 < length bytes → is_white (get_or bytes 0 0) ≡ false → is_letter (get_or bytes 0 0) ≡ false →
+    is_ascii_digit (get_or bytes 0 0) ≡ false → get_or bytes 0 0 ≡ quote → f ≡ text_front (quoted (behind bytes)) → f ≡ front bytes
+text_begins bytes f some white letter digit text is =
+    let same : (get_or bytes 0 0 == quote) ≡ true = eq-eqb _ _ text in
+    is ∙ ap (λ bs. text_front (quoted bs)) (take_rest bytes 1) ∙ sym (front_is bytes some ∙ rw (white, letter, digit, same) refl)
 
-pub front_number : (bytes : List ℕ) (more : ℕ) → 0 < length bytes → is_white (get_or bytes 0 0) ≡ false → is_letter (get_or bytes 0 0) ≡ false →
-    is_ascii_digit (get_or bytes 0 0) ≡ true → more ≡ length (take_while is_ascii_digit (behind bytes)) →
-    ◌≡◌ {A = Front} (record { token = Some k.Number; more = more }) (front bytes)
-front_number bytes more some white letter digit len = sym (front_cons bytes some ∙ rw (white, letter, digit, ← len))
+pub comment_begins : (bytes : List ℕ) (f : Front) → 0 < length bytes → is_white (get_or bytes 0 0) ≡ false → is_letter (get_or bytes 0 0) ≡ false →
+    is_ascii_digit (get_or bytes 0 0) ≡ false → (get_or bytes 0 0 ≡ quote → ⊥) → begins_comment bytes ≡ true → f ≡ comment_front bytes → f ≡ front bytes
+comment_begins bytes f some white letter digit text comment is =
+    let other : (get_or bytes 0 0 == quote) ≡ false = ne_eqb _ _ text in
+    is ∙ sym (front_is bytes some ∙ rw (white, letter, digit, other, comment) refl)
 
-pub front_mark : (bytes : List ℕ) (token : Token) → 0 < length bytes → is_white (get_or bytes 0 0) ≡ false → is_letter (get_or bytes 0 0) ≡ false →
-    is_ascii_digit (get_or bytes 0 0) ≡ false → token ≡ mark (get_or bytes 0 0) →
-    ◌≡◌ {A = Front} (record { token = Some token; more = 0 }) (front bytes)
-front_mark bytes token some white letter digit is = sym (front_cons bytes some ∙ rw (white, letter, digit, is))
+pub sign_begins : (bytes : List ℕ) (f : Front) → 0 < length bytes → is_white (get_or bytes 0 0) ≡ false → is_letter (get_or bytes 0 0) ≡ false →
+    is_ascii_digit (get_or bytes 0 0) ≡ false → (get_or bytes 0 0 ≡ quote → ⊥) → begins_comment bytes ≡ false → f ≡ sign_front bytes → f ≡ front bytes
+sign_begins bytes f some white letter digit text comment is =
+    let other : (get_or bytes 0 0 == quote) ≡ false = ne_eqb _ _ text in
+    is ∙ sym (front_is bytes some ∙ rw (white, letter, digit, other, comment) refl)
 
 -- bytes that are passed over
-passed_over : (n : ℕ) (bytes : List ℕ) → tokens_after n bytes ≡ tokens_after zero (drop n bytes)
-passed_over zero bytes = refl
-passed_over (suc n) [] = refl
-passed_over (suc n) (b ∷ bs) = passed_over n bs
+passed_over : (n passed : ℕ) (bytes : List ℕ) → tokens_after n passed bytes ≡ tokens_after (n + passed) zero (drop passed bytes)
+passed_over n zero bytes = rw add-zero refl
+passed_over n (suc passed) [] = refl
+passed_over n (suc passed) (b ∷ bs) = let e : suc n + passed ≡ n + suc passed = omega arith in rw (passed_over (suc n) passed bs, e) refl
 
-tokens_cons : (bytes : List ℕ) → 0 < length bytes → tokens bytes ≡ option_to_list (front bytes).token ++ tokens (drop (front bytes).more (behind bytes))
-unfolding tokens
-tokens_cons [] some = absurd (omega arith)
-tokens_cons (b ∷ bs) some =
-    rw (behind_cons b bs) (ap (λ l. option_to_list (front (b ∷ bs)).token ++ l) (passed_over (front (b ∷ bs)).more bs))
+tokens_cons : (n : ℕ) (bytes : List ℕ) → 0 < length bytes →
+    tokens_after n zero bytes ≡ at n (front bytes).token ++ tokens_after (n + 1 + (front bytes).more) zero (drop (front bytes).more (behind bytes))
+tokens_cons n [] some = absurd (omega arith)
+tokens_cons n (b ∷ bs) some =
+    rw (take_rest (b ∷ bs) 1, add-one) (ap (λ l. at n (front (b ∷ bs)).token ++ l) (passed_over (suc n) (front (b ∷ bs)).more bs))
+
+-- the tokens that are found, and those of the bytes that are left: all the tokens of the block
+pub record Found (bytes rest : List ℕ) (found : List Placed) : Type 0 where
+  pub all : found ++ tokens_after (length bytes - length rest) zero rest ≡ placed_tokens bytes
+  pub within : length rest ≤ length bytes
+
+pub nothing_found : (bytes : List ℕ) → Found bytes bytes []
+unfolding placed_tokens
+nothing_found bytes =
+    let e : length bytes - length bytes ≡ 0 = omega arith in
+    record { all = ap (λ n. tokens_after n zero bytes) e; within = omega arith }
 
 -- one round of the tokenizer
-pub round : (done : List Token) (bytes rest : List ℕ) (begins : Front) (pushed : List Token) → 0 < length rest → done ++ tokens rest ≡ tokens bytes →
-    begins ≡ front rest → pushed ≡ done ++ option_to_list begins.token →
-    pushed ++ tokens (take (length (behind rest) - begins.more) (drop begins.more (behind rest))) ≡ tokens bytes
-round done bytes rest begins pushed some before is more =
-    rw (take_rest (behind rest) begins.more, more, append_assoc, is) (ap (λ l. done ++ l) (sym (tokens_cons rest some)) ∙ before)
+pub round : (bytes rest : List ℕ) (found more : List Placed) (begins : Front) (place : ℕ) → 0 < length rest → begins.more < length rest → Found bytes rest found →
+    begins ≡ front rest → place ≡ length bytes - length rest → more ≡ found ++ at place begins.token →
+    Found bytes (take (length (behind rest) - begins.more) (drop begins.more (behind rest))) more
+round bytes rest found more begins place some shorter h is here e =
+    let left : take (length (behind rest) - begins.more) (drop begins.more (behind rest)) ≡ drop begins.more (behind rest) = take_rest (behind rest) begins.more in
+    let len : length (drop begins.more (behind rest)) ≡ length rest - 1 - begins.more = rw (length-drop, take_rest rest 1, length-drop) refl in
+    let next : length bytes - length (drop begins.more (behind rest)) ≡ place + 1 + begins.more = omega (arith, h.within) in
+    rw left (record {
+      all = rw (next, e, append_assoc) (ap (λ l. found ++ l) (subst (λ f. at place f.token ++ tokens_after (place + 1 + f.more) zero (drop f.more (behind rest)) ≡ tokens_after place zero rest) (sym is) (sym (tokens_cons place rest some))) ∙ rw here h.all);
+      within = omega (arith, h.within);
+    })
 
-pub no_more : (done : List Token) (bytes rest : List ℕ) → length rest ≡ 0 → done ++ tokens rest ≡ tokens bytes → done ≡ tokens bytes
-unfolding tokens
-no_more done bytes [] none before = sym (append-nil done) ∙ before
-no_more done bytes (b ∷ bs) none before = absurd (omega arith)
+pub no_more : (bytes rest : List ℕ) (found : List Placed) → length rest ≡ 0 → Found bytes rest found → found ≡ placed_tokens bytes
+no_more bytes [] found none h = sym (append-nil found) ∙ h.all
+no_more bytes (b ∷ bs) found none h = absurd (omega arith)
 
 -- what `is_empty` says
 pub some_bytes : (bytes : List ℕ) (r : Bool) → r ≡ (length bytes == 0) → r ≡ false → 0 < length bytes

@@ -1,7 +1,11 @@
 mod Runs
+mod Numbers
+mod Texts
 mod Fronts
+mod Places
 mod Remains
 mod Complete
 mod Sound
 mod Meaning
 mod Readings
+mod Rows

@@ -3,6 +3,7 @@ use Rattle.std.proofs.Common.{ℕ, List, [], ◌∷◌, ◌++◌, Option, Some, 
 use Rattle.vx_program.specs.declared.edit.Change.{Change}
 use Rattle.vx_reader.specs.declared.token.Token.{Token}
 use Rattle.vx_reader.specs.declared.token.Token.TheVariants as k
+use Rattle.vx_reader.specs.declared.token.Mark.TheVariants.{Comma}
 use Rattle.vx_reader.specs.declared.state.State.{State}
 use Rattle.vx_reader.specs.declared.state.State.TheVariants as st
 use Rattle.vx_reader.specs.Grammar.{IsNames, IsParents, IsDecls, IsChanges}
@@ -32,7 +33,7 @@ pub data Remains : State → List Token → List Change → Type 0 where
   after_parents : {changes all : List Change} {name : List ℕ} {parents : List (List ℕ)} {ts : List Token} →
       AfterDecl (with_object changes name parents) ts all → Remains (st.Parents changes name parents) ts all
   more_parents : {changes all : List Change} {name : List ℕ} {parents more : List (List ℕ)} {ts us : List Token} → IsNames ts us more →
-      AfterDecl (with_object changes name (parents ++ more)) us all → Remains (st.Parents changes name parents) (k.Comma ∷ ts) all
+      AfterDecl (with_object changes name (parents ++ more)) us all → Remains (st.Parents changes name parents) (k.Mark Comma ∷ ts) all
 
 -- ts completes the state where a step leads
 abbrev pub Moves : Option State → List Token → List Change → Type 0

@@ -8,6 +8,7 @@ use Rattle.vx_program.specs.declared.edit.Change.{Change}
 use Rattle.vx_program.specs.declared.edit.Change.TheVariants as c
 use Rattle.vx_reader.specs.declared.token.Token.{Token}
 use Rattle.vx_reader.specs.declared.token.Token.TheVariants as k
+use Rattle.vx_reader.specs.declared.token.Mark.TheVariants.{Comma}
 use Rattle.vx_reader.specs.declared.token.Keyword.TheVariants as w
 use Rattle.vx_reader.specs.declared.state.State.{State}
 use Rattle.vx_reader.specs.declared.state.State.TheVariants as st
@@ -66,12 +67,12 @@ of_name changes name token ts all h = r.after_name g.only_any (of_decl (with_obj
 
 -- a comma is followed by names
 of_comma : (changes : List Change) (name : List ℕ) (parents : List (List ℕ)) (ts : List Token) (all : List Change) → Remains (st.Parent changes name parents) ts all →
-    Remains (st.Parents changes name parents) (k.Comma ∷ ts) all
+    Remains (st.Parents changes name parents) (k.Mark Comma ∷ ts) all
 of_comma changes name parents ts all (r.wants_names names after) = r.more_parents names after
 
 of_parent : (changes : List Change) (name : List ℕ) (parents : List (List ℕ)) (token : Token) (ts : List Token) (all : List Change) →
     Moves (m.after_parent changes name parents token) ts all → Remains (st.Parents changes name parents) (token ∷ ts) all
-of_parent changes name parents k.Comma ts all h = of_comma changes name parents ts all h
+of_parent changes name parents (k.Mark Comma) ts all h = of_comma changes name parents ts all h
 of_parent changes name parents token ts all h = r.after_parents (of_decl (with_object changes name parents) token ts all h)
 
 -- a parent, and what follows it

@@ -7,6 +7,7 @@ use Rattle.vx_program.specs.Program.{any}
 use Rattle.vx_program.specs.declared.edit.Change.{Change}
 use Rattle.vx_program.specs.declared.edit.Change.TheVariants.{Add}
 use Rattle.vx_reader.specs.declared.token.Keyword.TheVariants.{Object, Isa}
+use Rattle.vx_reader.specs.declared.token.Mark.TheVariants.{Comma}
 use Rattle.vx_reader.specs.declared.token.Token.{Token}
 use Rattle.vx_reader.specs.declared.token.Token.TheVariants as k
 
@@ -22,7 +23,7 @@ image = codes "image"
 pub data IsNames : List Token → List Token → List (List ℕ) → Type 0 where
   last_name : {us : List Token} (name : List ℕ) → IsNames (k.Word name ∷ us) us (name ∷ [])
   next_name : {ts us : List Token} (name : List ℕ) {names : List (List ℕ)} → IsNames ts us names →
-      IsNames (k.Word name ∷ k.Comma ∷ ts) us (name ∷ names)
+      IsNames (k.Word name ∷ k.Mark Comma ∷ ts) us (name ∷ names)
 
 -- parents = ["isa" names]: the names after `isa`, or `any` alone where there is no `isa`
 pub data IsParents : List Token → List Token → List (List ℕ) → Type 0 where

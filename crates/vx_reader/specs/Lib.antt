@@ -1,4 +1,5 @@
 pub mod Bytes
+pub mod Strings
 pub mod Tokens
 pub mod Grammar
 pub mod Machine

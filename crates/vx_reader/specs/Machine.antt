@@ -6,6 +6,7 @@ use Rattle.vx_program.specs.Program.{any}
 use Rattle.vx_program.specs.declared.edit.Change.{Change}
 use Rattle.vx_program.specs.declared.edit.Change.TheVariants as c
 use Rattle.vx_reader.specs.declared.token.Keyword.TheVariants as w
+use Rattle.vx_reader.specs.declared.token.Mark.TheVariants.{Comma}
 use Rattle.vx_reader.specs.declared.token.Token.{Token}
 use Rattle.vx_reader.specs.declared.token.Token.TheVariants as k
 use Rattle.vx_reader.specs.declared.state.State.{State}
@@ -48,7 +49,7 @@ after_isa changes name parents token = None
 
 -- the token after a parent
 abbrev pub after_parent : List Change → List ℕ → List (List ℕ) → Token → Option State
-after_parent changes name parents k.Comma = Some (Parent changes name parents)
+after_parent changes name parents (k.Mark Comma) = Some (Parent changes name parents)
 after_parent changes name parents token = after_decl (with_object changes name parents) token
 
 -- the state after a token, if an edit goes on with it

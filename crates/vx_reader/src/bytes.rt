@@ -1,7 +1,7 @@
 ghost use Rattle.std.specs.Prelude.{◌≡◌, length, take_while};
 ghost use Rattle.std.specs.Char.{is_ascii_digit};
 ghost use Rattle.vx_names.specs.Bytes.{is_word_byte};
-ghost use Rattle.vx_reader.specs.Bytes.{is_white, is_foreign};
+ghost use Rattle.vx_reader.specs.Bytes.{is_white, is_foreign, is_printable, is_in_line};
 
 use vx_names::is_word_byte;
 
@@ -19,26 +19,33 @@ pub fn is_foreign(byte: u8) -> bool
     !(is_white(byte) || is_word_byte(byte) || byte == b',')
 }
 
+/// Whether the byte may stand in a string.
+pub fn is_printable(byte: u8) -> bool
+    ensures { result ≡ is_printable byte }
+{
+    byte == b' ' || byte.is_ascii_graphic()
+}
+
 /// How many bytes at the front may stand in an identifier.
 pub fn word_len(bytes: &[u8]) -> usize
     ensures { result ≡ length (take_while is_word_byte bytes.now) }
 {
-    for (len, byte) in bytes.iter().enumerate() {
-        if !is_word_byte(*byte) {
-            return len;
-        }
-    }
-    bytes.len()
+    bytes.iter().take_while(|byte| is_word_byte(**byte)).count()
 }
 
 /// How many bytes at the front are digits.
 pub fn number_len(bytes: &[u8]) -> usize
     ensures { result ≡ length (take_while is_ascii_digit bytes.now) }
 {
-    for (len, byte) in bytes.iter().enumerate() {
-        if !byte.is_ascii_digit() {
-            return len;
-        }
-    }
-    bytes.len()
+    bytes
+        .iter()
+        .take_while(|byte| byte.is_ascii_digit())
+        .count()
+}
+
+/// How many bytes stand before the end of the line.
+pub fn line_len(bytes: &[u8]) -> usize
+    ensures { result ≡ length (take_while is_in_line bytes.now) }
+{
+    bytes.iter().take_while(|byte| **byte != b'\n').count()
 }

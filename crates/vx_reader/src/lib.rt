@@ -1,19 +1,25 @@
-//! Blocks of bytes, read as commands.
+//! Blocks of bytes, read as tokens and as commands.
 #![tactic(auto)]
 
 mod bytes;
 mod command;
+mod front;
 mod laws;
 mod machine;
+mod number;
 mod reader;
+mod sign;
 mod spelling;
 mod state;
+mod text;
 mod token;
 mod tokenizer;
 
 pub use command::{Command, ReadFault};
 pub use laws::{every_block_is_read, one_reading};
 pub use reader::read_block;
+pub use token::{Keyword, Mark, Placed, Token};
+pub use tokenizer::tokens;
 
 #[cfg(test)]
 mod tests;

@@ -4,7 +4,7 @@ ghost use Rattle.vx_reader.specs.Machine as spec;
 
 use crate::spelling::name;
 use crate::state::State;
-use crate::token::{Keyword, Token};
+use crate::token::{Keyword, Mark, Token};
 use sqlite_items::Items;
 use std::alloc::{AllocError, Global};
 use vx_names::Name;
@@ -135,7 +135,7 @@ fn after_parent(
     ensures { IfOk result (λ next. next ≡ spec.after_parent changes name parents token.now) }
 {
     match token {
-        Token::Comma => Ok(Some(State::Parent(changes, name, parents))),
+        Token::Mark(Mark::Comma) => Ok(Some(State::Parent(changes, name, parents))),
         _ => {
             let changes = with_object(changes, name, parents)?;
             Ok(after_decl(changes, token))

@@ -1,12 +1,13 @@
 ghost use Rattle.std.specs.Prelude.{◌≡◌, IfOk};
 ghost use Rattle.vx_reader.specs.Machine.{meaning};
 ghost use Rattle.vx_reader.specs.Reads as spec;
+ghost use Rattle.vx_reader.specs.Tokens.{without_places};
 
 use crate::bytes::{is_foreign, is_white};
 use crate::command::{Command, ReadFault};
 use crate::machine::{finished, step};
 use crate::state::State;
-use crate::token::{Keyword, Token};
+use crate::token::{Keyword, Placed, Token};
 use crate::tokenizer::tokens;
 use sqlite_items::Items;
 use std::alloc::{AllocError, Global};
@@ -34,39 +35,53 @@ fn is_later_word(token: &Token) -> bool
     }
 }
 
-fn has_later_word(tokens: &[Token]) -> bool
-    ensures { result ≡ spec.has_later_word tokens.now }
+fn has_later_word(tokens: &[Placed]) -> bool
+    ensures { result ≡ spec.has_later_word (without_places tokens.now) }
 {
-    tokens.iter().any(is_later_word)
+    for placed in tokens {
+        if is_later_word(&placed.token) {
+            return true;
+        }
+    }
+    false
 }
 
-fn begins_with_command(tokens: &[Token]) -> bool
-    ensures { result ≡ spec.begins_with_command tokens.now }
+fn begins_with_command(tokens: &[Placed]) -> bool
+    ensures { result ≡ spec.begins_with_command (without_places tokens.now) }
 {
     match tokens {
-        [Token::Word(word), ..] => {
-            word.bytes() == b"add".as_slice() || word.bytes() == b"image".as_slice()
-        }
+        [
+            Placed {
+                token: Token::Word(word),
+                ..
+            },
+            ..
+        ] => { word.bytes() == b"add".as_slice() || word.bytes() == b"image".as_slice() }
         _ => false,
     }
 }
 
-fn is_image(tokens: &[Token]) -> bool
-    ensures { result ≡ spec.is_image tokens.now }
+fn is_image(tokens: &[Placed]) -> bool
+    ensures { result ≡ spec.is_image (without_places tokens.now) }
 {
     match tokens {
-        [Token::Word(word)] => word.bytes() == b"image".as_slice(),
+        [
+            Placed {
+                token: Token::Word(word),
+                ..
+            },
+        ] => word.bytes() == b"image".as_slice(),
         _ => false,
     }
 }
 
 // The changes that the tokens mean, if they are an edit.
-fn changes(alloc: Global, tokens: &[Token]) -> Result<Option<Items<Change>>, AllocError>
-    ensures { IfOk result (λ changes. changes ≡ meaning tokens.now) }
+fn changes(alloc: Global, tokens: &[Placed]) -> Result<Option<Items<Change>>, AllocError>
+    ensures { IfOk result (λ changes. changes ≡ meaning (without_places tokens.now)) }
 {
     let mut state = State::Start;
-    for token in tokens {
-        match step(alloc, state, token)? {
+    for placed in tokens {
+        match step(alloc, state, &placed.token)? {
             Some(next) => state = next,
             None => return Ok(None),
         }

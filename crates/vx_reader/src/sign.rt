@@ -1,0 +1,76 @@
+ghost use Rattle.std.specs.Prelude.{◌≡◌, ◌<◌, ◌≤◌, length, IsSome};
+ghost use Rattle.vx_reader.specs.Tokens as spec;
+
+use crate::front::begins;
+use crate::token::{Front, Mark, Token};
+use vx_names::Operator;
+
+// The mark that the bytes spell.
+#[tactic(auto, unfolding(crate::specs::Tokens::mark))]
+fn mark(bytes: &[u8]) -> Option<Mark>
+    ensures { result ≡ spec.mark bytes.now }
+{
+    if bytes == b"(".as_slice() {
+        Some(Mark::Open)
+    } else if bytes == b")".as_slice() {
+        Some(Mark::Close)
+    } else if bytes == b"{".as_slice() {
+        Some(Mark::OpenBlock)
+    } else if bytes == b"}".as_slice() {
+        Some(Mark::CloseBlock)
+    } else if bytes == b",".as_slice() {
+        Some(Mark::Comma)
+    } else if bytes == b";".as_slice() {
+        Some(Mark::Semicolon)
+    } else if bytes == b"@".as_slice() {
+        Some(Mark::At)
+    } else if bytes == b"&".as_slice() {
+        Some(Mark::Ampersand)
+    } else if bytes == b"^".as_slice() {
+        Some(Mark::Caret)
+    } else if bytes == b":=".as_slice() {
+        Some(Mark::Becomes)
+    } else if bytes == b"...".as_slice() {
+        Some(Mark::Dots)
+    } else {
+        None
+    }
+}
+
+// The token that the bytes are, if it is an operator or a mark.
+fn sign(bytes: &[u8]) -> Option<Token>
+    ensures { result ≡ spec.sign bytes.now }
+{
+    match Operator::from_bytes(bytes) {
+        Some(operator) => Some(Token::Operator(operator)),
+        None => mark(bytes).map(Token::Mark),
+    }
+}
+
+// The operator or mark that the first bytes are, `len` of them.
+fn sign_of(len: usize, bytes: &[u8]) -> Option<Token>
+    ensures sign { result ≡ spec.sign_of len bytes.now }
+    ensures within { IsSome result → len ≤ length bytes.now }
+{
+    if len <= bytes.len() {
+        sign(&bytes[..len])
+    } else {
+        None
+    }
+}
+
+/// The longest operator or mark that the bytes begin with, and else a bad byte.
+#[tactic(auto, unfolding(crate::specs::Tokens::sign_front))]
+pub fn sign_front(bytes: &[u8]) -> Front
+    requires { 0 < length bytes.now }
+    ensures front { result ≡ spec.sign_front bytes.now }
+    ensures within { result.more < length bytes.now }
+{
+    if let Some(token) = sign_of(3, bytes) {
+        return begins(token, 3);
+    }
+    if let Some(token) = sign_of(2, bytes) {
+        return begins(token, 2);
+    }
+    begins(sign_of(1, bytes).unwrap_or(Token::Bad), 1)
+}
