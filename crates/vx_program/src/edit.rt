@@ -1,8 +1,8 @@
-ghost use Rattle.std.specs.Prelude.{◌≡◌};
+ghost use Rattle.std.specs.Prelude.{◌≡◌, IfOk};
 ghost use Rattle.vx_program.specs.declared.edit.EditFault.TheVariants.{OutOfMemory};
 
 use sqlite_items::Items;
-use std::alloc::{AllocError, AllocFailed};
+use std::alloc::{AllocError, AllocFailed, Global};
 use vx_names::{DeclKey, Name};
 use vx_syntax::Decl;
 
@@ -13,10 +13,32 @@ pub enum Change {
     Add(Decl),
 }
 
+impl Change {
+    pub fn copy(&self, alloc: Global) -> Result<Change, AllocError>
+        ensures { IfOk result (λ change. change ≡ self.now) }
+    {
+        match self {
+            Change::Add(decl) => Ok(Change::Add(decl.copy(alloc)?)),
+        }
+    }
+}
+
 /// Changes that are taken in order, all of them or none.
 #[derive(Debug, Drop)]
 pub struct Edit {
     pub changes: Items<Change>,
+}
+
+impl Edit {
+    pub fn copy(&self, alloc: Global) -> Result<Edit, AllocError>
+        ensures { IfOk result (λ edit. edit ≡ self.now) }
+    {
+        let mut changes = Items::new(alloc);
+        for change in self.changes.as_slice() {
+            changes.push(change.copy(alloc)?)?;
+        }
+        Ok(Edit { changes })
+    }
 }
 
 /// Why an edit was refused: the first fault of the first change that has one.
@@ -27,6 +49,18 @@ pub enum EditFault {
     /// No declaration is an object of this name, the first such in the text of the change.
     Unknown(Name),
     OutOfMemory,
+}
+
+impl EditFault {
+    pub fn copy(&self, alloc: Global) -> Result<EditFault, AllocError>
+        ensures { IfOk result (λ fault. fault ≡ self.now) }
+    {
+        match self {
+            EditFault::Exists(key) => Ok(EditFault::Exists(key.copy(alloc)?)),
+            EditFault::Unknown(name) => Ok(EditFault::Unknown(name.copy(alloc)?)),
+            EditFault::OutOfMemory => Ok(EditFault::OutOfMemory),
+        }
+    }
 }
 
 impl From<AllocError> for EditFault {
