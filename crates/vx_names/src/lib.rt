@@ -5,6 +5,6 @@ mod key;
 mod name;
 mod operator;
 
-pub use key::DeclKey;
-pub use name::{NAME_BYTES, Name, NameFault, is_letter, is_word_byte};
+pub use key::{DeclKey, FieldKey, MethodKey, Selector};
+pub use name::{NAME_BYTES, Name, NameFault, copy_names, is_letter, is_word_byte};
 pub use operator::{Operator, operators_are_names};

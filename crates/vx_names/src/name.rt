@@ -105,6 +105,17 @@ impl Name {
     }
 }
 
+/// The names, each copied.
+pub fn copy_names(alloc: Global, names: &[Name]) -> Result<Items<Name>, AllocError>
+    ensures { IfOk result (λ copies. copies ≡ names.now) }
+{
+    let mut copies = Items::new(alloc);
+    for name in names {
+        copies.push(name.copy(alloc)?)?;
+    }
+    Ok(copies)
+}
+
 // Whether an identifier or an operator that has the bytes before the place has the one there too.
 fn goes_on(bytes: &[u8], place: usize) -> bool
     requires { place < length bytes.now }

@@ -9,3 +9,4 @@ mod Sound
 mod Meaning
 mod Readings
 mod Rows
+mod Trees

@@ -2,7 +2,32 @@ ghost use Rattle.std.specs.Prelude.{◌≡◌, IfOk};
 
 use sqlite_items::Items;
 use std::alloc::{AllocError, Global};
-use vx_names::Name;
+use vx_names::{Name, copy_names};
+
+/// What a field has at first.
+#[derive(Drop)]
+pub enum Start {
+    Nil,
+    True,
+    False,
+    Int(i128),
+    /// A string, as its bytes.
+    Text(Items<u8>),
+}
+
+impl Start {
+    pub fn copy(&self, alloc: Global) -> Result<Start, AllocError>
+        ensures { IfOk result (λ start. start ≡ self.now) }
+    {
+        match self {
+            Start::Nil => Ok(Start::Nil),
+            Start::True => Ok(Start::True),
+            Start::False => Ok(Start::False),
+            Start::Int(n) => Ok(Start::Int(*n)),
+            Start::Text(bytes) => Ok(Start::Text(Items::from_slice(alloc, bytes.as_slice())?)),
+        }
+    }
+}
 
 /// A declaration.
 #[derive(Debug, Drop)]
@@ -23,15 +48,4 @@ impl Decl {
             }
         }
     }
-}
-
-/// The names, each copied.
-pub fn copy_names(alloc: Global, names: &[Name]) -> Result<Items<Name>, AllocError>
-    ensures { IfOk result (λ copies. copies ≡ names.now) }
-{
-    let mut copies = Items::new(alloc);
-    for name in names {
-        copies.push(name.copy(alloc)?)?;
-    }
-    Ok(copies)
 }

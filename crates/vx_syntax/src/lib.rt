@@ -2,5 +2,9 @@
 #![tactic(auto)]
 
 mod decl;
+mod expr;
+mod test;
 
-pub use decl::{Decl, copy_names};
+pub use decl::{Decl, Start};
+pub use expr::{Body, Expr, Stmt};
+pub use test::{Compare, Test};
