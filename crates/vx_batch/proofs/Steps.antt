@@ -12,9 +12,9 @@ use Rattle.vx_reader.specs.declared.command.Command.{Command}
 use Rattle.vx_reader.specs.declared.command.Command.TheVariants as c
 use Rattle.vx_reader.specs.declared.command.ReadFault.{ReadFault}
 use Rattle.vx_blocks.specs.declared.block.TheConstants.{BLOCK_BYTES}
-use Rattle.vx_batch.specs.Script.{after_from, after, accepted_with, reply, Answers, read, too_long}
+use Rattle.vx_batch.specs.Script.{edited, after_from, after, accepted_with, reply, Answers, read, too_long}
 use Rattle.vx_batch.specs.Text.{too_long_text}
-use Rattle.vx_batch.specs.Steps.{edited, program_after, count_after, IsAnswered, IsAfter}
+use Rattle.vx_batch.specs.Steps.{program_after, count_after, IsAnswered, IsAfter}
 
 after_push : (program : List Decl) (edits : List Edit) (edit : Edit) → after_from program (edits ++ edit ∷ []) ≡ edited (after_from program edits) edit
 after_push program [] edit = refl

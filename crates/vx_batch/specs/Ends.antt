@@ -3,8 +3,7 @@ use Rattle.std.specs.Prelude.{◌≡◌, ℕ, ◌-◌, ◌<◌, ◌≤◌, Bool,
 use Rattle.std.specs.List.{concat}
 use Rattle.std.specs.Io.KnownBytes.{Consumes}
 use Rattle.vx_program.specs.declared.edit.Edit.{Edit}
-use Rattle.vx_blocks.specs.Blocks.{blocks}
-use Rattle.vx_blocks.specs.Blocks.{has_end_line}
+use Rattle.vx_blocks.specs.Blocks.{blocks, has_end_line}
 use Rattle.vx_batch.specs.declared.pieces.TheConstants.{INPUT_BYTES, PIECE_BYTES}
 use Rattle.vx_batch.specs.declared.pieces.End.{End}
 use Rattle.vx_batch.specs.declared.pieces.End.TheVariants.{Answered, ReadFailed, TooLong, Stopped}

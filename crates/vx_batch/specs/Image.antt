@@ -1,8 +1,8 @@
 -- The image of a program: its objects as bytes, version 0.
-use Rattle.std.specs.Prelude.{ℕ, ◌-◌, ◌^◌, min, nat_eq, Bool, not, List, [], ◌∷◌, ◌++◌, length, filter, codes}
-use Rattle.std.specs.Cmp.Lexicographic.{pointwise}
+use Rattle.std.specs.Prelude.{ℕ, ◌-◌, ◌^◌, min, Bool, not, List, [], ◌∷◌, ◌++◌, length, filter, codes}
 use Rattle.std.specs.Int.{w32, to_be_bytes}
 use Rattle.std.specs.List.{flat_map}
+use Rattle.std.specs.Str.{bytes_eq}
 use Rattle.vx_syntax.specs.declared.decl.Decl.{Decl}
 use Rattle.vx_program.specs.Program.{name_of, parents_of, any}
 
@@ -20,7 +20,7 @@ object_bytes decl = name_bytes (name_of decl) ++ number_bytes (length (parents_o
 
 -- whether the object is not the prelude's
 abbrev pub is_own : Decl → Bool
-is_own decl = not (pointwise nat_eq (name_of decl) any)
+is_own decl = not (bytes_eq (name_of decl) any)
 
 -- what images begin with: `VXIC`, and the version in one byte
 abbrev pub image_head : List ℕ

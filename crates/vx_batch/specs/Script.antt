@@ -17,10 +17,14 @@ use Rattle.vx_batch.specs.Image.{image_of}
 use Rattle.vx_batch.specs.Text.{accepted_text, exists_text, unknown_text, syntax_text, not_yet_built_text, image_text, too_long_text}
 use Rattle.vx_blocks.specs.declared.block.TheConstants.{BLOCK_BYTES}
 
--- the program after these edits, one after the other; one that is refused changes nothing
+-- the program after an edit; one that is refused changes nothing
+abbrev pub edited : List Decl → Edit → List Decl
+edited program edit = result_unwrap_or (apply program edit.changes) program
+
+-- the program after these edits, one after the other
 abbrev pub after_from : List Decl → List Edit → List Decl
 after_from program [] = program
-after_from program (edit ∷ edits) = after_from (result_unwrap_or (apply program edit.changes) program) edits
+after_from program (edit ∷ edits) = after_from (edited program edit) edits
 
 -- the program after these edits of the prelude
 abbrev pub after : List Edit → List Decl

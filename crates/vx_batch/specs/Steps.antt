@@ -1,6 +1,5 @@
 -- Blocks answered one after the other, as the program keeps its state: the program and a count in place of the accepted edits, and the bytes that are no whole block.
 use Rattle.std.specs.Prelude.{◌≡◌, ℕ, ◌+◌, List, ◌∷◌, ◌++◌, length, Option, Result, Ok, Err, is_ok, if◌then◌else◌, IfSome}
-use Rattle.std.specs.Result.{result_unwrap_or}
 use Rattle.std.specs.List.{concat}
 use Rattle.std.specs.Io.KnownBytes.{Appends}
 use Rattle.vx_syntax.specs.declared.decl.Decl.{Decl}
@@ -14,12 +13,9 @@ use Rattle.vx_reader.specs.declared.command.ReadFault.{ReadFault}
 use Rattle.vx_reader.specs.Reads.{Reads}
 use Rattle.vx_blocks.specs.Blocks.{blocks}
 use Rattle.vx_io.specs.Sink.{AppendsPart}
-use Rattle.vx_batch.specs.Script.{after, reply, edit_reply, Answers, AreReplies}
+use Rattle.vx_batch.specs.Script.{after, edited, reply, edit_reply, Answers, AreReplies}
 
--- the program and the count when an edit was answered
-abbrev pub edited : List Decl → Edit → List Decl
-edited program edit = result_unwrap_or (apply program edit.changes) program
-
+-- the count when an edit was answered
 abbrev pub counted : List Decl → ℕ → Edit → ℕ
 counted program count edit = if is_ok (apply program edit.changes) then count + 1 else count
 

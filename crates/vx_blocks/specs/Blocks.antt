@@ -1,6 +1,6 @@
 -- How input is cut into lines, and lines into blocks.
-use Rattle.std.specs.Prelude.{ℕ, Bool, nat_eq, ◌==◌, ◌||◌, List, [], ◌∷◌, ◌++◌, if◌then◌else◌}
-use Rattle.std.specs.Cmp.Lexicographic.{pointwise}
+use Rattle.std.specs.Prelude.{ℕ, Bool, ◌==◌, ◌||◌, List, [], ◌∷◌, ◌++◌, if◌then◌else◌}
+use Rattle.std.specs.Str.{bytes_eq}
 use Rattle.std.specs.List.{onto_first, list_any}
 
 -- The lines, each with its byte 10. The last may lack it, and no empty line comes last.
@@ -8,12 +8,9 @@ abbrev pub lines : List ℕ → List (List ℕ)
 lines [] = []
 lines (b ∷ bs) = if b == 10 then (b ∷ []) ∷ lines bs else onto_first b (lines bs)
 
-abbrev pub is_same : List ℕ → List ℕ → Bool
-is_same xs ys = pointwise nat_eq xs ys
-
 -- `.`, or `.` and byte 13, each with byte 10 behind it or without one
 abbrev pub is_end_line : List ℕ → Bool
-is_end_line line = is_same line (46 ∷ []) || is_same line (46 ∷ 10 ∷ []) || is_same line (46 ∷ 13 ∷ []) || is_same line (46 ∷ 13 ∷ 10 ∷ [])
+is_end_line line = bytes_eq line (46 ∷ []) || bytes_eq line (46 ∷ 10 ∷ []) || bytes_eq line (46 ∷ 13 ∷ []) || bytes_eq line (46 ∷ 13 ∷ 10 ∷ [])
 
 -- the line on the front of the first block, or a block by itself where there is none
 abbrev pub onto_first_block : List ℕ → List (List ℕ) → List (List ℕ)
@@ -31,7 +28,7 @@ blocks bytes = blocks_of (lines bytes)
 
 -- `.`, or `.` and byte 13, with byte 10 behind it
 abbrev pub is_whole_end_line : List ℕ → Bool
-is_whole_end_line line = is_same line (46 ∷ 10 ∷ []) || is_same line (46 ∷ 13 ∷ 10 ∷ [])
+is_whole_end_line line = bytes_eq line (46 ∷ 10 ∷ []) || bytes_eq line (46 ∷ 13 ∷ 10 ∷ [])
 
 -- whether some line ends a block, whatever comes behind the bytes
 abbrev pub has_end_line : List ℕ → Bool

@@ -61,6 +61,8 @@ fn end_lines_end_blocks(rt: HostRuntime) -> Result<(), Fail> {
     assert!(rt; has_blocks(alloc, b"a\n.", &[b"a\n"])?);
     assert!(rt; has_blocks(alloc, b"a\n.\n.\r", &[b"a\n", b""])?);
     assert!(rt; has_blocks(alloc, b"", &[])?);
+    assert!(rt; has_blocks(alloc, b"-- a\n.\nb", &[b"-- a\n", b"b"])?);
+    assert!(rt; has_blocks(alloc, b"\"a\n.\nb\"", &[b"\"a\n", b"b\""])?);
     Ok(())
 }
 

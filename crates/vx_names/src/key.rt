@@ -106,9 +106,12 @@ impl FieldKey {
 }
 
 /// What a declaration is found by.
-#[derive(Debug, Drop, PartialEq, Eq, PartialOrd, Ord)]
+#[derive(Debug, Drop)]
 pub enum DeclKey {
     Object(Name),
+    Predicate(Name),
+    Field(FieldKey),
+    Method(MethodKey),
 }
 
 impl DeclKey {
@@ -117,6 +120,9 @@ impl DeclKey {
     {
         match self {
             DeclKey::Object(name) => Ok(DeclKey::Object(name.copy(alloc)?)),
+            DeclKey::Predicate(name) => Ok(DeclKey::Predicate(name.copy(alloc)?)),
+            DeclKey::Field(key) => Ok(DeclKey::Field(key.copy(alloc)?)),
+            DeclKey::Method(key) => Ok(DeclKey::Method(key.copy(alloc)?)),
         }
     }
 }

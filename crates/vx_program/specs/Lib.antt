@@ -1,2 +1,3 @@
 pub mod Program
 pub mod Apply
+pub mod Changes

@@ -7,6 +7,7 @@ use Rattle.vx_names.specs.declared.key.DeclKey.{DeclKey}
 use Rattle.vx_names.specs.declared.key.DeclKey.TheVariants as k
 use Rattle.vx_syntax.specs.declared.decl.Decl.{Decl}
 use Rattle.vx_syntax.specs.declared.decl.Decl.TheVariants as d
+use Rattle.vx_syntax.specs.Declarations.{any}
 
 -- the name that a declaration gives to an object
 abbrev pub name_of : Decl → List ℕ
@@ -31,10 +32,6 @@ is_there program name = is_some (find program (k.Object name))
 -- keys are ordered by their bytes
 abbrev pub is_before : Decl → Decl → Bool
 is_before a b = is_lt (slice_cmp nat_cmp (name_of a) (name_of b))
-
--- the name of the prelude's object, from which all others inherit
-abbrev pub any : List ℕ
-any = 97 ∷ 110 ∷ 121 ∷ []
 
 abbrev pub prelude : List Decl
 prelude = d.Object any [] ∷ []

@@ -7,10 +7,14 @@ use vx_names::{DeclKey, Name};
 use vx_syntax::Decl;
 
 /// One change of a program.
-#[derive(Debug, Drop)]
+#[derive(Drop)]
 pub enum Change {
     /// The declaration joins the program.
     Add(Decl),
+    /// The declaration takes the place of that with its key.
+    Put(Decl),
+    /// The declaration with this key leaves the program.
+    Drop(DeclKey),
 }
 
 impl Change {
@@ -19,12 +23,14 @@ impl Change {
     {
         match self {
             Change::Add(decl) => Ok(Change::Add(decl.copy(alloc)?)),
+            Change::Put(decl) => Ok(Change::Put(decl.copy(alloc)?)),
+            Change::Drop(key) => Ok(Change::Drop(key.copy(alloc)?)),
         }
     }
 }
 
 /// Changes that are taken in order, all of them or none.
-#[derive(Debug, Drop)]
+#[derive(Drop)]
 pub struct Edit {
     pub changes: Items<Change>,
 }

@@ -9,4 +9,3 @@ mod Sound
 mod Meaning
 mod Readings
 mod Rows
-mod Trees

@@ -2,7 +2,7 @@
 use Rattle.std.proofs.Common.{◌≡◌, ℕ, ◌+◌, ◌<◌, ◌≤◌, List, [], ◌∷◌, length, drop, get_or, Option, Some, None, refl, sym, ◌∙◌, subst, ap}
 use Rattle.std.proofs.lemmas.List.{drop_more, drop_all}
 use Rattle.vx_program.specs.declared.edit.Change.{Change}
-use Rattle.vx_reader.specs.declared.token.Token.{Token}
+use Rattle.vx_syntax.specs.declared.token.Token.{Token}
 use Rattle.vx_reader.specs.declared.state.State.{State}
 use Rattle.vx_reader.specs.declared.state.State.TheVariants as st
 use Rattle.vx_reader.specs.Grammar as g

@@ -1,7 +1,7 @@
 -- Each block is read in one way.
 use Rattle.std.proofs.Common.{◌≡◌, ℕ, Bool, true, false, List, Option, Some, None, Result, Ok, Err, refl, sym, ◌∙◌}
 use Rattle.vx_program.specs.declared.edit.Change.{Change}
-use Rattle.vx_reader.specs.declared.token.Token.{Token}
+use Rattle.vx_syntax.specs.declared.token.Token.{Token}
 use Rattle.vx_reader.specs.declared.command.Command.{Command}
 use Rattle.vx_reader.specs.declared.command.Command.TheVariants.{Blank, Edit, Image}
 use Rattle.vx_reader.specs.declared.command.ReadFault.{ReadFault}

@@ -1,9 +1,9 @@
 -- What each state of the reader still wants: the tokens ts complete it to the changes all.
 use Rattle.std.proofs.Common.{ℕ, List, [], ◌∷◌, ◌++◌, Option, Some, None}
 use Rattle.vx_program.specs.declared.edit.Change.{Change}
-use Rattle.vx_reader.specs.declared.token.Token.{Token}
-use Rattle.vx_reader.specs.declared.token.Token.TheVariants as k
-use Rattle.vx_reader.specs.declared.token.Mark.TheVariants.{Comma}
+use Rattle.vx_syntax.specs.declared.token.Token.{Token}
+use Rattle.vx_syntax.specs.declared.token.Token.TheVariants as k
+use Rattle.vx_syntax.specs.declared.token.Mark.TheVariants.{Comma}
 use Rattle.vx_reader.specs.declared.state.State.{State}
 use Rattle.vx_reader.specs.declared.state.State.TheVariants as st
 use Rattle.vx_reader.specs.Grammar.{IsNames, IsParents, IsDecls, IsChanges}

@@ -2,12 +2,13 @@
 use Rattle.std.proofs.Common.{◌≡◌, ℕ, [], ◌∷◌, ◌++◌, codes, replicate, refl}
 use Rattle.vx_names.specs.Operator.{operator_of}
 use Rattle.vx_names.specs.declared.operator.Operator.TheVariants as o
-use Rattle.vx_reader.specs.declared.token.Mark.TheVariants as m
+use Rattle.vx_syntax.specs.declared.token.Mark.TheVariants as m
 use Rattle.vx_reader.specs.declared.token.Placed.{Placed}
-use Rattle.vx_reader.specs.declared.token.Token.{Token}
-use Rattle.vx_reader.specs.declared.token.Token.TheVariants as k
+use Rattle.vx_syntax.specs.declared.token.Token.{Token}
+use Rattle.vx_syntax.specs.declared.token.Token.TheVariants as k
 use Rattle.vx_reader.specs.Strings.{quoted}
-use Rattle.vx_reader.specs.Tokens.{keyword, mark, sign_front, front, placed_tokens}
+use Rattle.vx_syntax.specs.Words.{keyword, mark}
+use Rattle.vx_reader.specs.Tokens.{sign_front, front, placed_tokens}
 
 abbrev at : ℕ → Token → Placed
 at place token = record { token = token; place = place }

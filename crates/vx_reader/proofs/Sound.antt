@@ -6,10 +6,10 @@ use Rattle.vx_syntax.specs.declared.decl.Decl.TheVariants as d
 use Rattle.vx_program.specs.Program.{any}
 use Rattle.vx_program.specs.declared.edit.Change.{Change}
 use Rattle.vx_program.specs.declared.edit.Change.TheVariants as c
-use Rattle.vx_reader.specs.declared.token.Token.{Token}
-use Rattle.vx_reader.specs.declared.token.Token.TheVariants as k
-use Rattle.vx_reader.specs.declared.token.Mark.TheVariants.{Comma}
-use Rattle.vx_reader.specs.declared.token.Keyword.TheVariants as w
+use Rattle.vx_syntax.specs.declared.token.Token.{Token}
+use Rattle.vx_syntax.specs.declared.token.Token.TheVariants as k
+use Rattle.vx_syntax.specs.declared.token.Mark.TheVariants.{Comma}
+use Rattle.vx_syntax.specs.declared.token.Keyword.TheVariants as w
 use Rattle.vx_reader.specs.declared.state.State.{State}
 use Rattle.vx_reader.specs.declared.state.State.TheVariants as st
 use Rattle.vx_reader.specs.Grammar as g

@@ -1,15 +1,10 @@
 -- The classes of bytes that blocks are made of, besides those of names.
 use Rattle.std.specs.Prelude.{ℕ, Bool, ◌==◌, ◌||◌, not}
-use Rattle.std.specs.Char.{is_ascii_graphic}
 use Rattle.vx_names.specs.Bytes.{is_word_byte}
 
 -- a tab, a line feed, a carriage return or a space
 abbrev pub is_white : ℕ → Bool
 is_white b = b == 9 || b == 10 || b == 13 || b == 32
-
--- the bytes that strings hold: space to tilde
-abbrev pub is_printable : ℕ → Bool
-is_printable b = b == 32 || is_ascii_graphic b
 
 -- no line feed
 abbrev pub is_in_line : ℕ → Bool

@@ -3,9 +3,9 @@ use Rattle.std.specs.Prelude.{◌≡◌, ℕ, Bool, true, false, not, ◌||◌, 
 use Rattle.std.specs.List.{list_any, list_all}
 use Rattle.std.specs.Str.{bytes_eq}
 use Rattle.vx_program.specs.declared.edit.Change.{Change}
-use Rattle.vx_reader.specs.declared.token.Keyword.TheVariants as w
-use Rattle.vx_reader.specs.declared.token.Token.{Token}
-use Rattle.vx_reader.specs.declared.token.Token.TheVariants as k
+use Rattle.vx_syntax.specs.declared.token.Keyword.TheVariants as w
+use Rattle.vx_syntax.specs.declared.token.Token.{Token}
+use Rattle.vx_syntax.specs.declared.token.Token.TheVariants as k
 use Rattle.vx_reader.specs.declared.command.Command.{Command}
 use Rattle.vx_reader.specs.declared.command.Command.TheVariants.{Blank, Edit, Image}
 use Rattle.vx_reader.specs.declared.command.ReadFault.{ReadFault}

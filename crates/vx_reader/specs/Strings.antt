@@ -2,10 +2,11 @@
 use Rattle.std.specs.Prelude.{ℕ, ◌==◌, ◌||◌, Bool, true, false, suc, nat_le, if◌then◌else◌, List, [], ◌∷◌, length, Option, Some, None}
 use Rattle.std.specs.Option.{option_map}
 use Rattle.vx_reader.specs.declared.token.Quoted.{Quoted}
-use Rattle.vx_reader.specs.declared.text.TheConstants.{TEXT_BYTES}
+use Rattle.vx_syntax.specs.declared.token.TheConstants.{TEXT_BYTES}
+use Rattle.vx_syntax.specs.Words.{is_printable}
 use Rattle.vx_reader.specs.declared.text.StringByte.{StringByte}
 use Rattle.vx_reader.specs.declared.text.StringByte.TheVariants.{Closing, Backslash, Held, Wrong}
-use Rattle.vx_reader.specs.Bytes.{is_printable, quote, backslash}
+use Rattle.vx_reader.specs.Bytes.{quote, backslash}
 
 -- what a byte of a string is: behind a backslash only a quote or a backslash may stand, which the string then holds
 abbrev pub string_byte : Bool → ℕ → StringByte

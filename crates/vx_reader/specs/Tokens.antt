@@ -7,45 +7,15 @@ use Rattle.std.specs.Char.{is_ascii_digit}
 use Rattle.vx_names.specs.Bytes.{is_letter, is_word_byte}
 use Rattle.vx_names.specs.Operator.{operator_of}
 use Rattle.vx_names.specs.declared.name.TheConstants.{NAME_BYTES}
-use Rattle.vx_reader.specs.declared.token.Keyword.{Keyword}
-use Rattle.vx_reader.specs.declared.token.Keyword.TheVariants.{Object, Predicate, Method, Field, Isa, When, Let, Var, Resend}
-use Rattle.vx_reader.specs.declared.token.Mark.{Mark}
-use Rattle.vx_reader.specs.declared.token.Mark.TheVariants.{Open, Close, OpenBlock, CloseBlock, Comma, Semicolon, At, Ampersand, Caret, Becomes, Dots}
-use Rattle.vx_reader.specs.declared.token.Token.{Token}
-use Rattle.vx_reader.specs.declared.token.Token.TheVariants as k
+use Rattle.vx_syntax.specs.declared.token.Keyword.{Keyword}
+use Rattle.vx_syntax.specs.Words.{keyword, mark}
+use Rattle.vx_syntax.specs.declared.token.Token.{Token}
+use Rattle.vx_syntax.specs.declared.token.Token.TheVariants as k
 use Rattle.vx_reader.specs.declared.token.Placed.{Placed}
 use Rattle.vx_reader.specs.declared.token.Front.{Front}
 use Rattle.vx_reader.specs.declared.token.Quoted.{Quoted}
 use Rattle.vx_reader.specs.Bytes.{is_white, is_in_line, quote}
 use Rattle.vx_reader.specs.Strings.{quoted}
-
--- the reserved word that the bytes spell
-unfoldable pub keyword : List ℕ → Option Keyword
-keyword bytes =
-    if bytes_eq bytes (codes "object") then Some Object else
-    if bytes_eq bytes (codes "predicate") then Some Predicate else
-    if bytes_eq bytes (codes "method") then Some Method else
-    if bytes_eq bytes (codes "field") then Some Field else
-    if bytes_eq bytes (codes "isa") then Some Isa else
-    if bytes_eq bytes (codes "when") then Some When else
-    if bytes_eq bytes (codes "let") then Some Let else
-    if bytes_eq bytes (codes "var") then Some Var else
-    if bytes_eq bytes (codes "resend") then Some Resend else None
-
--- the mark that the bytes spell
-unfoldable pub mark : List ℕ → Option Mark
-mark bytes =
-    if bytes_eq bytes (codes "(") then Some Open else
-    if bytes_eq bytes (codes ")") then Some Close else
-    if bytes_eq bytes (codes "{") then Some OpenBlock else
-    if bytes_eq bytes (codes "}") then Some CloseBlock else
-    if bytes_eq bytes (codes ",") then Some Comma else
-    if bytes_eq bytes (codes ";") then Some Semicolon else
-    if bytes_eq bytes (codes "@") then Some At else
-    if bytes_eq bytes (codes "&") then Some Ampersand else
-    if bytes_eq bytes (codes "^") then Some Caret else
-    if bytes_eq bytes (codes ":=") then Some Becomes else
-    if bytes_eq bytes (codes "...") then Some Dots else None
 
 -- the token that an identifier is, by the reserved word that it spells: a name has at most 64 bytes
 abbrev pub spelled : Option Keyword → List ℕ → Token

@@ -1,7 +1,7 @@
 ghost use Rattle.std.specs.Prelude.{◌≡◌, length, take_while};
 ghost use Rattle.std.specs.Char.{is_ascii_digit};
 ghost use Rattle.vx_names.specs.Bytes.{is_word_byte};
-ghost use Rattle.vx_reader.specs.Bytes.{is_white, is_foreign, is_printable, is_in_line};
+ghost use Rattle.vx_reader.specs.Bytes.{is_white, is_foreign, is_in_line};
 
 use vx_names::is_word_byte;
 
@@ -17,13 +17,6 @@ pub fn is_foreign(byte: u8) -> bool
     ensures { result ≡ is_foreign byte }
 {
     !(is_white(byte) || is_word_byte(byte) || byte == b',')
-}
-
-/// Whether the byte may stand in a string.
-pub fn is_printable(byte: u8) -> bool
-    ensures { result ≡ is_printable byte }
-{
-    byte == b' ' || byte.is_ascii_graphic()
 }
 
 /// How many bytes at the front may stand in an identifier.

@@ -1,7 +1,8 @@
 ghost use Rattle.std.specs.Prelude.{◌≡◌, ◌<◌};
 ghost use Rattle.vx_reader.specs.Tokens as spec;
 
-use crate::token::{Front, Token};
+use crate::token::Front;
+use vx_syntax::Token;
 
 /// No token, but this many bytes that are passed over.
 pub fn passes(len: usize) -> Front

@@ -18,7 +18,7 @@ mod tokenizer;
 pub use command::{Command, ReadFault};
 pub use laws::{every_block_is_read, one_reading};
 pub use reader::read_block;
-pub use token::{Keyword, Mark, Placed, Token};
+pub use token::Placed;
 pub use tokenizer::tokens;
 
 #[cfg(test)]

@@ -4,12 +4,11 @@ ghost use Rattle.vx_reader.specs.Machine as spec;
 
 use crate::spelling::name;
 use crate::state::State;
-use crate::token::{Keyword, Mark, Token};
 use sqlite_items::Items;
 use std::alloc::{AllocError, Global};
 use vx_names::Name;
 use vx_program::Change;
-use vx_syntax::Decl;
+use vx_syntax::{Decl, Keyword, Mark, Token};
 
 // The changes, and one that adds this object.
 fn with_object(

@@ -7,11 +7,12 @@ use crate::bytes::{is_foreign, is_white};
 use crate::command::{Command, ReadFault};
 use crate::machine::{finished, step};
 use crate::state::State;
-use crate::token::{Keyword, Placed, Token};
+use crate::token::Placed;
 use crate::tokenizer::tokens;
 use sqlite_items::Items;
 use std::alloc::{AllocError, Global};
 use vx_program::{Change, Edit};
+use vx_syntax::{Keyword, Token};
 
 fn is_blank(bytes: &[u8]) -> bool
     ensures { result ≡ spec.is_blank bytes.now }

@@ -2,40 +2,9 @@ ghost use Rattle.std.specs.Prelude.{◌≡◌, ◌<◌, ◌≤◌, length, IsSom
 ghost use Rattle.vx_reader.specs.Tokens as spec;
 
 use crate::front::begins;
-use crate::token::{Front, Mark, Token};
+use crate::token::Front;
 use vx_names::Operator;
-
-// The mark that the bytes spell.
-#[tactic(auto, unfolding(crate::specs::Tokens::mark))]
-fn mark(bytes: &[u8]) -> Option<Mark>
-    ensures { result ≡ spec.mark bytes.now }
-{
-    if bytes == b"(".as_slice() {
-        Some(Mark::Open)
-    } else if bytes == b")".as_slice() {
-        Some(Mark::Close)
-    } else if bytes == b"{".as_slice() {
-        Some(Mark::OpenBlock)
-    } else if bytes == b"}".as_slice() {
-        Some(Mark::CloseBlock)
-    } else if bytes == b",".as_slice() {
-        Some(Mark::Comma)
-    } else if bytes == b";".as_slice() {
-        Some(Mark::Semicolon)
-    } else if bytes == b"@".as_slice() {
-        Some(Mark::At)
-    } else if bytes == b"&".as_slice() {
-        Some(Mark::Ampersand)
-    } else if bytes == b"^".as_slice() {
-        Some(Mark::Caret)
-    } else if bytes == b":=".as_slice() {
-        Some(Mark::Becomes)
-    } else if bytes == b"...".as_slice() {
-        Some(Mark::Dots)
-    } else {
-        None
-    }
-}
+use vx_syntax::{Mark, Token};
 
 // The token that the bytes are, if it is an operator or a mark.
 fn sign(bytes: &[u8]) -> Option<Token>
@@ -43,7 +12,7 @@ fn sign(bytes: &[u8]) -> Option<Token>
 {
     match Operator::from_bytes(bytes) {
         Some(operator) => Some(Token::Operator(operator)),
-        None => mark(bytes).map(Token::Mark),
+        None => Mark::from_bytes(bytes).map(Token::Mark),
     }
 }
 

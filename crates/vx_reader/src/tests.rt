@@ -1,9 +1,9 @@
-use crate::{Command, Placed, ReadFault, Token, read_block, tokens};
+use crate::{Command, Placed, ReadFault, read_block, tokens};
 use std::alloc::{AllocError, Global};
 use std::test::Fail;
 use vx_names::Name;
 use vx_program::Change;
-use vx_syntax::Decl;
+use vx_syntax::{Decl, Token};
 
 fn push_object(text: &mut Vec<u8>, name: &Name, parents: &[Name]) -> Result<(), AllocError> {
     text.extend_from_slice(name.bytes())?;

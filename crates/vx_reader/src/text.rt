@@ -1,13 +1,10 @@
 ghost use Rattle.std.specs.Prelude.{◌≡◌, ◌≤◌, length, IfOk, IfSome};
 ghost use Rattle.vx_reader.specs.Strings as spec;
 
-use crate::bytes::is_printable;
 use crate::token::Quoted;
 use sqlite_items::Items;
 use std::alloc::{AllocError, Global};
-
-/// The most bytes that a string holds.
-pub const TEXT_BYTES: usize = 1024;
+use vx_syntax::{TEXT_BYTES, is_printable};
 
 /// What a byte is in a string.
 #[derive(Clone, Copy)]

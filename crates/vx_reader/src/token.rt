@@ -1,57 +1,5 @@
 use sqlite_items::Items;
-use vx_names::{Name, Operator};
-
-/// A reserved word, which is no name.
-#[derive(Clone, Copy, Debug)]
-pub enum Keyword {
-    Object,
-    Predicate,
-    Method,
-    Field,
-    Isa,
-    When,
-    Let,
-    Var,
-    Resend,
-}
-
-/// A sign, or some, that is no operator.
-#[derive(Clone, Copy, Debug)]
-pub enum Mark {
-    /// `(`
-    Open,
-    /// `)`
-    Close,
-    /// `{`
-    OpenBlock,
-    /// `}`
-    CloseBlock,
-    Comma,
-    Semicolon,
-    At,
-    Ampersand,
-    Caret,
-    /// `:=`
-    Becomes,
-    /// `...`
-    Dots,
-}
-
-/// What a block is made of, besides white space and comments.
-#[derive(Debug, Drop)]
-pub enum Token {
-    /// An identifier that is not reserved.
-    Word(Name),
-    Keyword(Keyword),
-    /// The number that digits write, or 2 to the power of 127 where it is greater.
-    Number(u128),
-    /// The bytes that a string holds, after escapes.
-    Text(Items<u8>),
-    Operator(Operator),
-    Mark(Mark),
-    /// Bytes with which no command goes on.
-    Bad,
-}
+use vx_syntax::Token;
 
 /// A token of a block.
 #[derive(Debug, Drop)]

@@ -10,10 +10,11 @@ use crate::number::number;
 use crate::sign::sign_front;
 use crate::spelling::word;
 use crate::text::quoted;
-use crate::token::{Front, Placed, Quoted, Token};
+use crate::token::{Front, Placed, Quoted};
 use sqlite_items::Items;
 use std::alloc::{AllocError, Global};
 use vx_names::is_letter;
+use vx_syntax::Token;
 
 // The identifier that begins at a letter.
 fn word_front(alloc: Global, bytes: &[u8]) -> Result<Front, AllocError>

@@ -4,7 +4,9 @@
 mod decl;
 mod expr;
 mod test;
+mod token;
 
 pub use decl::{Decl, Start};
 pub use expr::{Body, Expr, Stmt};
 pub use test::{Compare, Test};
+pub use token::{Keyword, Mark, TEXT_BYTES, Token, is_printable};

@@ -57,6 +57,7 @@ fn each_block_has_its_reply(rt: HostRuntime) -> Result<(), Fail> {
             "accepted 1\nrefused exists a\nrefused unknown zed\nrefused syntax\nrefused not yet built\nimage 1 19\n: 56584943000000000101610000000103616e79\n",
         ),
         (" \n.\n\t\r\n.\n", ""),
+        ("-- add\n.\nadd object a\n.\n", "refused not yet built\naccepted 1\n"),
     ] {
         let (status, written) = run(alloc, &[], script.as_bytes(), &AT_ONCE)?;
         assert_eq!(rt; status, 0, "{script}");

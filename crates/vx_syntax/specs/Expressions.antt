@@ -5,10 +5,10 @@ use Rattle.std.specs.Str.{bytes_eq}
 use Rattle.vx_names.specs.declared.operator.Operator.{Operator}
 use Rattle.vx_names.specs.declared.operator.Operator.TheVariants as o
 use Rattle.vx_names.specs.Operator.{spelling}
-use Rattle.vx_reader.specs.declared.token.Token.{Token}
-use Rattle.vx_reader.specs.declared.token.Token.TheVariants as k
-use Rattle.vx_reader.specs.declared.token.Keyword.TheVariants as w
-use Rattle.vx_reader.specs.declared.token.Mark.TheVariants as m
+use Rattle.vx_syntax.specs.declared.token.Token.{Token}
+use Rattle.vx_syntax.specs.declared.token.Token.TheVariants as k
+use Rattle.vx_syntax.specs.declared.token.Keyword.TheVariants as w
+use Rattle.vx_syntax.specs.declared.token.Mark.TheVariants as m
 use Rattle.vx_syntax.specs.declared.expr.Expr.{Expr}
 use Rattle.vx_syntax.specs.declared.expr.Expr.TheVariants as e
 use Rattle.vx_syntax.specs.declared.expr.Stmt.{Stmt}
