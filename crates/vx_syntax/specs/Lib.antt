@@ -2,3 +2,4 @@ pub mod Words
 pub mod Expressions
 pub mod Tests
 pub mod Declarations
+pub mod Keys
