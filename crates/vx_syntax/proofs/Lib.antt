@@ -1,1 +1,4 @@
 mod Trees
+mod Views
+pub mod Round
+pub mod ReadTrees

@@ -1,5 +1,5 @@
 -- The words and marks of the language, and which tokens bytes spell.
-use Rattle.std.specs.Prelude.{◌≡◌, ℕ, ◌≤◌, ◌==◌, ◌||◌, ◌^◌, Bool, true, if◌then◌else◌, List, length, codes, Option, Some, None}
+use Rattle.std.specs.Prelude.{◌≡◌, ℕ, ◌<◌, ◌≤◌, ◌==◌, ◌||◌, ◌^◌, Bool, true, if◌then◌else◌, List, length, codes, Option, Some, None}
 use Rattle.std.specs.Char.{is_ascii_graphic}
 use Rattle.std.specs.List.{AllByRecursion}
 use Rattle.std.specs.Str.{bytes_eq}
@@ -65,3 +65,11 @@ IsToken (k.Text bytes) = IsText bytes
 IsToken (k.Operator operator) = Unit {0}
 IsToken (k.Mark mark) = Unit {0}
 IsToken k.Bad = ⊥
+
+-- The token is one that a command which means something has: no number is larger than literals are.
+abbrev pub IsMeant : Token → Type 0
+IsMeant (k.Number n) = n < 2 ^ 127
+IsMeant token = IsToken token
+
+abbrev pub AreMeant : List Token → Type 0
+AreMeant ts = AllByRecursion IsMeant ts
