@@ -2,3 +2,5 @@ mod Trees
 mod Views
 pub mod Round
 pub mod ReadTrees
+pub mod RoundTests
+pub mod RoundDecls

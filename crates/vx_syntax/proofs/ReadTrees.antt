@@ -13,7 +13,7 @@ use Rattle.vx_syntax.specs.declared.expr.Stmt.TheVariants as t
 use Rattle.vx_syntax.specs.Words.{IsWord, AreMeant}
 use Rattle.vx_syntax.specs.Expressions as g
 use Rattle.vx_syntax.specs.Expressions.{Bytes, Scope, is_bound, is_among, is_back, brings, with_formals, field_names, operation, IsExpr, IsMoreCompares, IsSum, IsMoreSums, IsProduct, IsMoreProducts, IsPrim, IsArguments, IsFields, IsFormals, IsMoreFormals, IsBody, IsStatements, IsStmt}
-use Rattle.vx_syntax.specs.Written.{count, is_over, IsLiteral, IsSent, AreNew, IsWritten, AreWritten, AreFieldsWritten, IsBodyWritten, IsStmtWritten}
+use Rattle.vx_syntax.specs.Written.{count, is_over, IsLiteral, IsSent, AreNew, IsWritten, AreWritten, AreFieldsWritten, IsBodyWritten, IsStmtWritten, is_last, AreStated}
 use Rattle.vx_syntax.proofs.Views.{the_items_is}
 use Rattle.vx_syntax.proofs.Round.{count_is, with_last, names_push}
 
@@ -56,33 +56,24 @@ record Fielded (scope : Scope) (given fields : List (Bytes × Expr)) : Type 0 wh
   split : given ++ rest ≡ fields
   each : AllFields rest (field_names given) scope
 
--- statements, each in the scope that those before it made
-abbrev is_last : List Stmt → Bool
-is_last [] = true
-is_last (a ∷ l) = false
-
-abbrev AllStated : List Stmt → Scope → Type 0
-AllStated [] scope = Unit {0}
-AllStated (a ∷ l) scope = IsStmtWritten a scope × (is_back a ≡ true → is_last l ≡ true) × AllStated l (brings scope a)
-
 over_is : {n : _} (row : Row_of-Stmt n) → is_over row ≡ is_last (items-the_row-Stmt n row)
 over_is end_of-Stmt = refl
 over_is (more_of-Stmt a rest) = refl
 
-body_written : {n : _} (row : Row_of-Stmt n) (scope : Scope) → AllStated (items-the_row-Stmt n row) scope → IsBodyWritten row scope
+pub body_written : {n : _} (row : Row_of-Stmt n) (scope : Scope) → AreStated (items-the_row-Stmt n row) scope → IsBodyWritten row scope
 body_written end_of-Stmt scope h = tt
 body_written (more_of-Stmt a rest) scope h = (h.0, (λ is. over_is rest ∙ h.1 is), body_written rest (brings scope a) h.2)
 
-closure_written : (scope : Scope) (formals : List Bytes) (body : List Stmt) → AreNew scope formals → length formals ≤ 4 → AllStated body (with_formals scope formals) →
+closure_written : (scope : Scope) (formals : List Bytes) (body : List Stmt) → AreNew scope formals → length formals ≤ 4 → AreStated body (with_formals scope formals) →
     IsWritten (e.Closure formals (record { 0 = body })) scope
 closure_written scope formals body new few h =
     (new, few, body_written (hidden-the_row-Stmt-1 body) (with_formals scope formals)
-        (subst (λ l. AllStated l (with_formals scope formals)) (sym (items_hidden-the_row-Stmt-1 body ∙ the_items_is Stmt body)) h))
+        (subst (λ l. AreStated l (with_formals scope formals)) (sym (items_hidden-the_row-Stmt-1 body ∙ the_items_is Stmt body)) h))
 
 record Stated (scope : Scope) (before body : List Stmt) : Type 0 where
   rest : List Stmt
   split : before ++ rest ≡ body
-  each : AllStated rest scope
+  each : AreStated rest scope
 
 -- formals after those that are given
 new_push : (scope : Scope) (given : List Bytes) (x : Bytes) → AreNew scope given → IsWord x → is_bound (with_formals scope given) x ≡ false → AreNew scope (given ++ x ∷ [])
@@ -177,10 +168,10 @@ module _ (found : (op : Operator) → operator_of (spelling op) ≡ Some op) (wo
         (record { rest = (f, a) ∷ h.0.rest; split = sym (append_assoc given ((f, a) ∷ []) h.0.rest) ∙ h.0.split;
             each = (m.0, short, new, p.0, subst (λ l. AllFields h.0.rest l scope) (names_push given f a) h.0.each) }, h.1)
 
-    body_stated : {scope : Scope} {ts us : List Token} {body : List Stmt} → IsBody scope ts us body → AreMeant ts → AllStated body scope × AreMeant us
+    body_stated : {scope : Scope} {ts us : List Token} {body : List Stmt} → IsBody scope ts us body → AreMeant ts → AreStated body scope × AreMeant us
     body_stated g.empty m = (tt, m)
     body_stated g.only_semicolon m = (tt, m.1)
-    body_stated {scope} (g.statements more) m = let h = statements_stated more m in (subst (λ l. AllStated l scope) h.0.split h.0.each, h.1)
+    body_stated {scope} (g.statements more) m = let h = statements_stated more m in (subst (λ l. AreStated l scope) h.0.split h.0.each, h.1)
 
     statements_stated : {scope : Scope} {before body : List Stmt} {ts us : List Token} → IsStatements scope before ts us body → AreMeant ts → Stated scope before body × AreMeant us
     statements_stated (g.last {a = a} one) m =

@@ -139,7 +139,7 @@ mutual
                   (subst (λ l. g.is_among l f' ≡ false) (sym (names_push given f a)) h.2)
                   (subst (λ l. AreFieldsWritten rest (l ++ f' ∷ []) scope) (sym (names_push given f a)) h.4)))
 
-  body_of : {n : _} (row : Row_of-Stmt n) (scope : Scope) (us : List Token) → IsBodyWritten row scope → IsBody scope (printed_body row us) us (items-the_row-Stmt _ row)
+  pub body_of : {n : _} (row : Row_of-Stmt n) (scope : Scope) (us : List Token) → IsBodyWritten row scope → IsBody scope (printed_body row us) us (items-the_row-Stmt _ row)
   body_of end_of-Stmt scope us h = g.empty
   body_of (more_of-Stmt a rest) scope us h =
       g.statements (statements_of rest [] a scope us (λ vs. stmt_of a scope vs h.0) h.1 h.2)
