@@ -4,3 +4,4 @@ pub mod Round
 pub mod ReadTrees
 pub mod RoundTests
 pub mod RoundDecls
+pub mod ReadDecls

@@ -168,7 +168,7 @@ module _ (found : (op : Operator) → operator_of (spelling op) ≡ Some op) (wo
         (record { rest = (f, a) ∷ h.0.rest; split = sym (append_assoc given ((f, a) ∷ []) h.0.rest) ∙ h.0.split;
             each = (m.0, short, new, p.0, subst (λ l. AllFields h.0.rest l scope) (names_push given f a) h.0.each) }, h.1)
 
-    body_stated : {scope : Scope} {ts us : List Token} {body : List Stmt} → IsBody scope ts us body → AreMeant ts → AreStated body scope × AreMeant us
+    pub body_stated : {scope : Scope} {ts us : List Token} {body : List Stmt} → IsBody scope ts us body → AreMeant ts → AreStated body scope × AreMeant us
     body_stated g.empty m = (tt, m)
     body_stated g.only_semicolon m = (tt, m.1)
     body_stated {scope} (g.statements more) m = let h = statements_stated more m in (subst (λ l. AreStated l scope) h.0.split h.0.each, h.1)
