@@ -5,3 +5,4 @@ pub mod ReadTrees
 pub mod RoundTests
 pub mod RoundDecls
 pub mod ReadDecls
+pub mod Meant

@@ -93,22 +93,26 @@ formals_read : {operator : Bool} {given xs : List (Option Bytes)} {done all : Li
     length given ≡ length done → (operator ≡ false → length given + 1 ≤ 8) → AreFormalsWritten [] given done →
     AreFormalsWritten [] xs all × Counted operator (length all) × AreMeant us
 formals_read {operator} {given} {done = done} (g.last_formal {x = x} {specialiser} one ends) m same few h =
-    let p = formal_read one m in
-    (formals_push [] given done x specialiser h p.0,
-     ended operator (length given) (length (done ++ specialiser ∷ [])) (omega (arith, length-append done (specialiser ∷ []), same)) ends few, p.1.1)
+    let p = formal_read one m in (
+      formals_push [] given done x specialiser h p.0,
+      ended operator (length given) (length (done ++ specialiser ∷ [])) (omega (arith, length-append done (specialiser ∷ []), same)) ends few,
+      p.1.1,
+    )
 formals_read {operator} {given} {done = done} (g.next_formal {x = x} {specialiser} one goes more) m same few h =
     let p = formal_read one m in
     formals_read more p.1.1 (omega (arith, length-append given (x ∷ []), length-append done (specialiser ∷ []), same))
-        (λ is. omega (arith, length-append given (x ∷ []), further operator (length given + 1) goes is)) (formals_push [] given done x specialiser h p.0)
+    (λ is. omega (arith, length-append given (x ∷ []), further operator (length given + 1) goes is)) (formals_push [] given done x specialiser h p.0)
 
 specialisers_read : {operator : Bool} {given all : List Bytes} {ts us : List Token} → IsSpecialisers operator given ts us all → AreMeant ts →
     (operator ≡ false → length given + 1 ≤ 8) → AllByRecursion IsWord given → AllByRecursion IsWord all × Counted operator (length all) × AreMeant us
-specialisers_read {operator} {given} (g.last_specialiser specialiser ends) m few h =
-    (words_push given specialiser h m.1.0,
-     ended operator (length given) (length (given ++ specialiser ∷ [])) (omega (arith, length-append given (specialiser ∷ []))) ends few, m.1.1.1)
+specialisers_read {operator} {given} (g.last_specialiser specialiser ends) m few h = (
+  words_push given specialiser h m.1.0,
+  ended operator (length given) (length (given ++ specialiser ∷ [])) (omega (arith, length-append given (specialiser ∷ []))) ends few,
+  m.1.1.1,
+)
 specialisers_read {operator} {given} (g.next_specialiser specialiser goes more) m few h =
     specialisers_read more m.1.1.1 (λ is. omega (arith, length-append given (specialiser ∷ []), further operator (length given + 1) goes is))
-        (words_push given specialiser h m.1.0)
+    (words_push given specialiser h m.1.0)
 
 module _ (found : (op : Operator) → operator_of (spelling op) ≡ Some op) (words : (x : Bytes) → IsIdentifier x → operator_of x ≡ None) where
   word_sent : (x : Bytes) (n : ℕ) → IsWord x → n ≤ 8 → IsSent (operator_of x) x n

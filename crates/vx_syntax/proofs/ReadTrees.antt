@@ -47,9 +47,11 @@ fields_written end_of-Expr-New-1-2 given scope h = tt
 fields_written (more_of-Expr-New-1-2 f a rest) given scope h = (h.0, h.1, h.2, h.3, fields_written rest (given ++ f ∷ []) scope h.4)
 
 made_written : (scope : Scope) (x : Bytes) (fields : List (Bytes × Expr)) → IsWord x → AllFields fields [] scope → IsWritten (e.New x fields) scope
-made_written scope x fields word h =
-    (word, fields_written (hidden-the_row-Expr-New-1-2-2 fields) [] scope
-        (subst (λ l. AllFields l [] scope) (sym (items_hidden-the_row-Expr-New-1-2-2 fields ∙ the_items_is _ fields)) h))
+made_written scope x fields word h = (
+  word,
+  fields_written (hidden-the_row-Expr-New-1-2-2 fields) [] scope
+      (subst (λ l. AllFields l [] scope) (sym (items_hidden-the_row-Expr-New-1-2-2 fields ∙ the_items_is _ fields)) h),
+)
 
 record Fielded (scope : Scope) (given fields : List (Bytes × Expr)) : Type 0 where
   rest : List (Bytes × Expr)
@@ -66,9 +68,12 @@ body_written (more_of-Stmt a rest) scope h = (h.0, (λ is. over_is rest ∙ h.1 
 
 closure_written : (scope : Scope) (formals : List Bytes) (body : List Stmt) → AreNew scope formals → length formals ≤ 4 → AreStated body (with_formals scope formals) →
     IsWritten (e.Closure formals (record { 0 = body })) scope
-closure_written scope formals body new few h =
-    (new, few, body_written (hidden-the_row-Stmt-1 body) (with_formals scope formals)
-        (subst (λ l. AreStated l (with_formals scope formals)) (sym (items_hidden-the_row-Stmt-1 body ∙ the_items_is Stmt body)) h))
+closure_written scope formals body new few h = (
+  new,
+  few,
+  body_written (hidden-the_row-Stmt-1 body) (with_formals scope formals)
+      (subst (λ l. AreStated l (with_formals scope formals)) (sym (items_hidden-the_row-Stmt-1 body ∙ the_items_is Stmt body)) h),
+)
 
 record Stated (scope : Scope) (before body : List Stmt) : Type 0 where
   rest : List Stmt
@@ -97,14 +102,18 @@ closure_formals_read (g.formals more) m = formals_read more m (omega arith) tt
 module _ (found : (op : Operator) → operator_of (spelling op) ≡ Some op) (words : (x : Bytes) → IsIdentifier x → operator_of x ≡ None) where
   sent_written : (scope : Scope) (x : Bytes) (arguments : List Expr) → IsWord x → length arguments ≤ 8 → AllWritten scope arguments →
       IsWritten (e.Send (record { name = x; arity = length arguments }) arguments) scope
-  sent_written scope x arguments word few h =
-      (subst (λ o. IsSent o x (count (hidden-the_row-Expr-0 arguments))) (sym (words x word.identifier)) (word, omega (arith, few, counts arguments)),
-       sym (counts arguments), row_written scope arguments h)
+  sent_written scope x arguments word few h = (
+    subst (λ o. IsSent o x (count (hidden-the_row-Expr-0 arguments))) (sym (words x word.identifier)) (word, omega (arith, few, counts arguments)),
+    sym (counts arguments),
+    row_written scope arguments h,
+  )
 
   operation_written : (scope : Scope) (op : Operator) (a b : Expr) → IsWritten a scope → IsWritten b scope → IsWritten (operation op a b) scope
-  operation_written scope op a b p q =
-      (subst (λ o. IsSent o (spelling op) (count (hidden-the_row-Expr-0 (a ∷ b ∷ [])))) (sym (found op)) (refl, counts (a ∷ b ∷ [])),
-       sym (counts (a ∷ b ∷ [])), row_written scope (a ∷ b ∷ []) (p, (q, tt)))
+  operation_written scope op a b p q = (
+    subst (λ o. IsSent o (spelling op) (count (hidden-the_row-Expr-0 (a ∷ b ∷ [])))) (sym (found op)) (refl, counts (a ∷ b ∷ [])),
+    sym (counts (a ∷ b ∷ [])),
+    row_written scope (a ∷ b ∷ []) (p, (q, tt)),
+  )
 
   mutual
     expr_written : {scope : Scope} {ts us : List Token} {v : Expr} → IsExpr scope ts us v → AreMeant ts → IsWritten v scope × AreMeant us
@@ -164,9 +173,14 @@ module _ (found : (op : Operator) → operator_of (spelling op) ≡ Some op) (wo
         let p = expr_written one m.1.1 in (record { rest = (f, a) ∷ []; split = refl; each = (m.0, short, new, p.0, tt) }, p.1.1)
     fields_read {scope} {given} (g.next_field {a = a} f short new one more) m =
         let p = expr_written one m.1.1 in
-        let h = fields_read more p.1.1 in
-        (record { rest = (f, a) ∷ h.0.rest; split = sym (append_assoc given ((f, a) ∷ []) h.0.rest) ∙ h.0.split;
-            each = (m.0, short, new, p.0, subst (λ l. AllFields h.0.rest l scope) (names_push given f a) h.0.each) }, h.1)
+        let h = fields_read more p.1.1 in (
+          record {
+            rest = (f, a) ∷ h.0.rest;
+            split = sym (append_assoc given ((f, a) ∷ []) h.0.rest) ∙ h.0.split;
+            each = (m.0, short, new, p.0, subst (λ l. AllFields h.0.rest l scope) (names_push given f a) h.0.each);
+          },
+          h.1,
+        )
 
     pub body_stated : {scope : Scope} {ts us : List Token} {body : List Stmt} → IsBody scope ts us body → AreMeant ts → AreStated body scope × AreMeant us
     body_stated g.empty m = (tt, m)
@@ -180,9 +194,14 @@ module _ (found : (op : Operator) → operator_of (spelling op) ≡ Some op) (wo
         let p = stmt_written one m in (record { rest = a ∷ []; split = refl; each = (p.0, (λ is. refl), tt) }, p.1.1)
     statements_stated {before = before} (g.next {a = a} one other more) m =
         let p = stmt_written one m in
-        let h = statements_stated more p.1.1 in
-        (record { rest = a ∷ h.0.rest; split = sym (append_assoc before (a ∷ []) h.0.rest) ∙ h.0.split;
-            each = (p.0, (λ is. absurd (let f = sym is ∙ other in cc)), h.0.each) }, h.1)
+        let h = statements_stated more p.1.1 in (
+          record {
+            rest = a ∷ h.0.rest;
+            split = sym (append_assoc before (a ∷ []) h.0.rest) ∙ h.0.split;
+            each = (p.0, (λ is. absurd (let f = sym is ∙ other in cc)), h.0.each);
+          },
+          h.1,
+        )
 
     stmt_written : {scope : Scope} {ts us : List Token} {a : Stmt} → IsStmt scope ts us a → AreMeant ts → IsStmtWritten a scope × AreMeant us
     stmt_written (g.let_of x new one) m = let p = expr_written one m.1.1.1 in ((m.1.0, new, p.0), p.1)

@@ -30,7 +30,7 @@ operation_of op g.adding is a b =
     g.expr (g.sum_of (g.product_of a g.no_more_products) (g.more_sums op is (g.product_of b g.no_more_products) g.no_more_sums)) g.no_more_compares
 operation_of op g.comparing is a b =
     g.expr (g.sum_of (g.product_of a g.no_more_products) g.no_more_sums)
-        (g.more_compares op is (g.sum_of (g.product_of b g.no_more_products) g.no_more_sums) g.no_more_compares)
+    (g.more_compares op is (g.sum_of (g.product_of b g.no_more_products) g.no_more_sums) g.no_more_compares)
 
 not_back : (x y : Bool) → (x ≡ true → y ≡ true) → y ≡ false → x ≡ false
 not_back true y h e = absurd (let f = h refl in cc)
@@ -50,9 +50,9 @@ formals_of : (xs given : List Bytes) (x : Bytes) (scope : Scope) (us : List Toke
 formals_of [] given x scope us few h = g.last_formal x h.1
 formals_of (y ∷ xs) given x scope us few h =
     g.next_formal x h.1 (omega arith)
-        (subst (λ l. IsMoreFormals scope (given ++ x ∷ []) (k.Word y ∷ printed_more_names xs (k.Mark m.Close ∷ us)) us l) (append_assoc given (x ∷ []) (y ∷ xs))
-            (formals_of xs (given ++ x ∷ []) y scope us (omega (arith, length-append given (x ∷ [])))
-                (subst (λ s. AreNew s (y ∷ xs)) (sym (with_last scope given x)) h.2)))
+    (subst (λ l. IsMoreFormals scope (given ++ x ∷ []) (k.Word y ∷ printed_more_names xs (k.Mark m.Close ∷ us)) us l) (append_assoc given (x ∷ []) (y ∷ xs))
+    (formals_of xs (given ++ x ∷ []) y scope us (omega (arith, length-append given (x ∷ [])))
+    (subst (λ s. AreNew s (y ∷ xs)) (sym (with_last scope given x)) h.2)))
 
 closure_of : (formals : List Bytes) (body : List Stmt) (scope : Scope) (ts us : List Token) → length formals ≤ 4 → AreNew scope formals →
     IsBody (with_formals scope formals) ts (k.Mark m.CloseBlock ∷ us) body →
@@ -69,7 +69,7 @@ sent_by : (selector : Selector) (arguments : List Expr) {x : Bytes} {n : ℕ} {s
     IsPrim scope ts us (e.Send (record { name = x; arity = n }) arguments) → IsPrim scope ts us (e.Send selector arguments)
 sent_by selector arguments {x} {n} {scope} {ts} {us} name arity h =
     subst (λ i. IsPrim scope ts us (e.Send (record { name = selector.name; arity = i }) arguments)) arity
-        (subst (λ y. IsPrim scope ts us (e.Send (record { name = y; arity = n }) arguments)) name h)
+    (subst (λ y. IsPrim scope ts us (e.Send (record { name = y; arity = n }) arguments)) name h)
 
 mutual
   pub prim_of : (a : Expr) (scope : Scope) (us : List Token) → IsWritten a scope → IsPrim scope (printed a us) us a
@@ -79,25 +79,25 @@ mutual
   prim_of (e.Name x) scope us h = g.name x
   prim_of (e.Send' selector shape row) scope us h =
       subst (λ v. IsPrim scope (printed (e.Send' selector shape row) us) us v) (send_is selector shape row)
-          ((elim (operator_of selector.name) as (λ o. IsSent o selector.name (count row) →
-              IsPrim scope (elim o [
-                | None ↦ k.Word selector.name ∷ k.Mark m.Open ∷ printed_arguments row (k.Mark m.Close ∷ us)
-                | Some op ↦ k.Mark m.Open ∷ printed_operands row op (k.Mark m.Close ∷ us)
-              ]) us (e.Send selector (items-the_row-Expr _ row))) [
-            | None ↦ λ sent. sent_by selector (items-the_row-Expr _ row) refl (sym (h.1 ∙ count_is row)) (called_of row selector.name scope us sent.1 h.2)
-            | Some op ↦ λ sent. sent_by selector (items-the_row-Expr _ row) sent.0 (sym (h.1 ∙ sent.1)) (operands_of row op scope us sent.1 h.2)
-          ]) h.0)
+      ((elim (operator_of selector.name) as (λ o. IsSent o selector.name (count row) →
+      IsPrim scope (elim o [
+        | None ↦ k.Word selector.name ∷ k.Mark m.Open ∷ printed_arguments row (k.Mark m.Close ∷ us)
+        | Some op ↦ k.Mark m.Open ∷ printed_operands row op (k.Mark m.Close ∷ us)
+      ]) us (e.Send selector (items-the_row-Expr _ row))) [
+        | None ↦ λ sent. sent_by selector (items-the_row-Expr _ row) refl (sym (h.1 ∙ count_is row)) (called_of row selector.name scope us sent.1 h.2)
+        | Some op ↦ λ sent. sent_by selector (items-the_row-Expr _ row) sent.0 (sym (h.1 ∙ sent.1)) (operands_of row op scope us sent.1 h.2)
+      ]) h.0)
   prim_of (e.Closure' formals shape row) scope us h =
       subst (λ v. IsPrim scope (printed (e.Closure' formals shape row) us) us v) (closure_is formals shape row)
-          (closure_of formals (items-the_row-Stmt _ row) scope (printed_body row (k.Mark m.CloseBlock ∷ us)) us h.1 h.0
-              (body_of row (with_formals scope formals) (k.Mark m.CloseBlock ∷ us) h.2))
+      (closure_of formals (items-the_row-Stmt _ row) scope (printed_body row (k.Mark m.CloseBlock ∷ us)) us h.1 h.0
+      (body_of row (with_formals scope formals) (k.Mark m.CloseBlock ∷ us) h.2))
   prim_of (e.New' x shape row) scope us h =
       subst (λ v. IsPrim scope (printed (e.New' x shape row) us) us v) (new_is x shape row) (made_of row x scope us h.1)
   prim_of e.Resend scope us h = g.resend
 
   called_of : {n : _} (row : Row_of-Expr n) (x : Bytes) (scope : Scope) (us : List Token) → count row ≤ 8 → AreWritten row scope →
       IsPrim scope (k.Word x ∷ k.Mark m.Open ∷ printed_arguments row (k.Mark m.Close ∷ us)) us
-          (e.Send (record { name = x; arity = length (items-the_row-Expr _ row) }) (items-the_row-Expr _ row))
+      (e.Send (record { name = x; arity = length (items-the_row-Expr _ row) }) (items-the_row-Expr _ row))
   called_of end_of-Expr x scope us few h = g.call_of_none x
   called_of (more_of-Expr a rest) x scope us few h =
       g.call x (arguments_of rest [] a scope us (λ vs. prim_of a scope vs h.0) (omega arith) h.1)
@@ -108,13 +108,13 @@ mutual
   arguments_of end_of-Expr given a scope us p few h = g.last_argument (expr_of (p (k.Mark m.Close ∷ us)))
   arguments_of (more_of-Expr b rest) given a scope us p few h =
       g.next_argument (expr_of (p (k.Mark m.Comma ∷ printed b (printed_more rest (k.Mark m.Close ∷ us))))) (omega arith)
-          (subst (λ l. IsArguments scope (given ++ a ∷ []) (printed b (printed_more rest (k.Mark m.Close ∷ us))) us l)
-              (append_assoc given (a ∷ []) (b ∷ items-the_row-Expr _ rest))
-              (arguments_of rest (given ++ a ∷ []) b scope us (λ vs. prim_of b scope vs h.0) (omega (arith, length-append given (a ∷ []))) h.1))
+      (subst (λ l. IsArguments scope (given ++ a ∷ []) (printed b (printed_more rest (k.Mark m.Close ∷ us))) us l)
+      (append_assoc given (a ∷ []) (b ∷ items-the_row-Expr _ rest))
+      (arguments_of rest (given ++ a ∷ []) b scope us (λ vs. prim_of b scope vs h.0) (omega (arith, length-append given (a ∷ []))) h.1))
 
   operands_of : {n : _} (row : Row_of-Expr n) (op : Operator) (scope : Scope) (us : List Token) → count row ≡ 2 → AreWritten row scope →
       IsPrim scope (k.Mark m.Open ∷ printed_operands row op (k.Mark m.Close ∷ us)) us
-          (e.Send (record { name = spelling op; arity = 2 }) (items-the_row-Expr _ row))
+      (e.Send (record { name = spelling op; arity = 2 }) (items-the_row-Expr _ row))
   operands_of (more_of-Expr a (more_of-Expr b end_of-Expr)) op scope us two h =
       g.paren (operation_of op (level op) refl (prim_of a scope (k.Operator op ∷ printed b (k.Mark m.Close ∷ us)) h.0) (prim_of b scope (k.Mark m.Close ∷ us) h.1.0))
   operands_of _ op scope us two h = absurd (omega arith)
@@ -129,15 +129,15 @@ mutual
       ((vs : List Token) → IsPrim scope (printed a vs) vs a) → length f ≤ 60 → g.is_among (field_names given) f ≡ false →
       AreFieldsWritten rest (field_names given ++ f ∷ []) scope →
       IsFields scope given (k.Word f ∷ k.Mark m.Becomes ∷ printed a (printed_more_fields rest (k.Mark m.CloseBlock ∷ us))) us
-          (given ++ ((f, a) ∷ items-the_row-Expr-New-1-2 _ rest))
+      (given ++ ((f, a) ∷ items-the_row-Expr-New-1-2 _ rest))
   fields_of end_of-Expr-New-1-2 given f a scope us p short new h = g.last_field f short new (expr_of (p (k.Mark m.CloseBlock ∷ us)))
   fields_of (more_of-Expr-New-1-2 f' b rest) given f a scope us p short new h =
       g.next_field f short new (expr_of (p (k.Mark m.Comma ∷ k.Word f' ∷ k.Mark m.Becomes ∷ printed b (printed_more_fields rest (k.Mark m.CloseBlock ∷ us)))))
-          (subst (λ l. IsFields scope (given ++ (f, a) ∷ []) (k.Word f' ∷ k.Mark m.Becomes ∷ printed b (printed_more_fields rest (k.Mark m.CloseBlock ∷ us))) us l)
-              (append_assoc given ((f, a) ∷ []) ((f', b) ∷ items-the_row-Expr-New-1-2 _ rest))
-              (fields_of rest (given ++ (f, a) ∷ []) f' b scope us (λ vs. prim_of b scope vs h.3) h.1
-                  (subst (λ l. g.is_among l f' ≡ false) (sym (names_push given f a)) h.2)
-                  (subst (λ l. AreFieldsWritten rest (l ++ f' ∷ []) scope) (sym (names_push given f a)) h.4)))
+      (subst (λ l. IsFields scope (given ++ (f, a) ∷ []) (k.Word f' ∷ k.Mark m.Becomes ∷ printed b (printed_more_fields rest (k.Mark m.CloseBlock ∷ us))) us l)
+      (append_assoc given ((f, a) ∷ []) ((f', b) ∷ items-the_row-Expr-New-1-2 _ rest))
+      (fields_of rest (given ++ (f, a) ∷ []) f' b scope us (λ vs. prim_of b scope vs h.3) h.1
+      (subst (λ l. g.is_among l f' ≡ false) (sym (names_push given f a)) h.2)
+      (subst (λ l. AreFieldsWritten rest (l ++ f' ∷ []) scope) (sym (names_push given f a)) h.4)))
 
   pub body_of : {n : _} (row : Row_of-Stmt n) (scope : Scope) (us : List Token) → IsBodyWritten row scope → IsBody scope (printed_body row us) us (items-the_row-Stmt _ row)
   body_of end_of-Stmt scope us h = g.empty
@@ -150,9 +150,9 @@ mutual
   statements_of end_of-Stmt before a scope us p only h = g.last (p us)
   statements_of (more_of-Stmt b rest) before a scope us p only h =
       g.next (p (k.Mark m.Semicolon ∷ printed_stmt b (printed_next rest us))) (not_back (is_back a) false only refl)
-          (subst (λ l. IsStatements (brings scope a) (before ++ a ∷ []) (printed_stmt b (printed_next rest us)) us l)
-              (append_assoc before (a ∷ []) (b ∷ items-the_row-Stmt _ rest))
-              (statements_of rest (before ++ a ∷ []) b (brings scope a) us (λ vs. stmt_of b (brings scope a) vs h.0) h.1 h.2))
+      (subst (λ l. IsStatements (brings scope a) (before ++ a ∷ []) (printed_stmt b (printed_next rest us)) us l)
+      (append_assoc before (a ∷ []) (b ∷ items-the_row-Stmt _ rest))
+      (statements_of rest (before ++ a ∷ []) b (brings scope a) us (λ vs. stmt_of b (brings scope a) vs h.0) h.1 h.2))
 
   stmt_of : (a : Stmt) (scope : Scope) (us : List Token) → IsStmtWritten a scope → IsStmt scope (printed_stmt a us) us a
   stmt_of (t.Let x a) scope us h = g.let_of x h.1 (expr_of (prim_of a scope us h.2))

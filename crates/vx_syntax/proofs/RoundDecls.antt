@@ -45,15 +45,15 @@ body_is body = items_hidden-the_row-Stmt-1 body ∙ the_items_is Stmt body
 list_of : (body : List Stmt) (scope : Scope) (us : List Token) → AreStated body scope → IsBody scope (printed_statements body us) us body
 list_of body scope us h =
     subst (λ l. IsBody scope (printed_statements l us) us l) (body_is body)
-        (subst (λ ts. IsBody scope ts us (items-the_row-Stmt _ (hidden-the_row-Stmt-1 body))) (body_by_list (hidden-the_row-Stmt-1 body) us)
-            (body_of (hidden-the_row-Stmt-1 body) scope us
-                (body_written (hidden-the_row-Stmt-1 body) scope (subst (λ l. AreStated l scope) (sym (body_is body)) h))))
+    (subst (λ ts. IsBody scope ts us (items-the_row-Stmt _ (hidden-the_row-Stmt-1 body))) (body_by_list (hidden-the_row-Stmt-1 body) us)
+    (body_of (hidden-the_row-Stmt-1 body) scope us
+    (body_written (hidden-the_row-Stmt-1 body) scope (subst (λ l. AreStated l scope) (sym (body_is body)) h))))
 
 names_of : (xs given : List Bytes) (x : Bytes) (us : List Token) → IsNames given (k.Word x ∷ printed_more_names xs us) us (given ++ x ∷ xs)
 names_of [] given x us = g.last_name x
 names_of (y ∷ xs) given x us =
     g.next_name x (subst (λ l. IsNames (given ++ x ∷ []) (k.Word y ∷ printed_more_names xs us) us l) (append_assoc given (x ∷ []) (y ∷ xs))
-        (names_of xs (given ++ x ∷ []) y us))
+    (names_of xs (given ++ x ∷ []) y us))
 
 same : (xs ys : Bytes) → bytes_eq xs ys ≡ true → xs ≡ ys
 same xs ys h = (bytes_eq-Decides xs ys).0 h
@@ -138,11 +138,11 @@ formals_of operator total fits (y ∷ xs) (t ∷ specialisers) given done x spec
     let ts = printed_formal y t (printed_more_formals xs specialisers (k.Mark m.Close ∷ us)) in
     let first = first_formal given x specialiser (y ∷ xs) (t ∷ specialisers) (k.Mark m.Comma ∷ ts) h in
     g.next_formal first.0 (fits.goes (length given + 1) (omega (arith, is)))
-        (subst (λ l. IsFormals operator (given ++ x ∷ []) (done ++ specialiser ∷ []) ts us l (done ++ specialiser ∷ t ∷ specialisers)) (append_assoc given (x ∷ []) (y ∷ xs))
-            (subst (λ l. IsFormals operator (given ++ x ∷ []) (done ++ specialiser ∷ []) ts us ((given ++ x ∷ []) ++ y ∷ xs) l) (append_assoc done (specialiser ∷ []) (t ∷ specialisers))
-                (formals_of operator total fits xs specialisers (given ++ x ∷ []) (done ++ specialiser ∷ []) y t us
-                    (omega (arith, is, length-append given (x ∷ [])))
-                    (subst (λ s. AreFormalsWritten s (y ∷ xs) (t ∷ specialisers)) (sym (scope_push given x)) first.1))))
+    (subst (λ l. IsFormals operator (given ++ x ∷ []) (done ++ specialiser ∷ []) ts us l (done ++ specialiser ∷ t ∷ specialisers)) (append_assoc given (x ∷ []) (y ∷ xs))
+    (subst (λ l. IsFormals operator (given ++ x ∷ []) (done ++ specialiser ∷ []) ts us ((given ++ x ∷ []) ++ y ∷ xs) l) (append_assoc done (specialiser ∷ []) (t ∷ specialisers))
+    (formals_of operator total fits xs specialisers (given ++ x ∷ []) (done ++ specialiser ∷ []) y t us
+    (omega (arith, is, length-append given (x ∷ [])))
+    (subst (λ s. AreFormalsWritten s (y ∷ xs) (t ∷ specialisers)) (sym (scope_push given x)) first.1))))
 formals_of operator total fits [] (t ∷ specialisers) given done x specialiser us is h = absurd (let p = same_length (formal_scope given) (x ∷ []) (specialiser ∷ t ∷ specialisers) h in omega (arith, p))
 formals_of operator total fits (y ∷ xs) [] given done x specialiser us is h = absurd (let p = same_length (formal_scope given) (x ∷ y ∷ xs) (specialiser ∷ []) h in omega (arith, p))
 
@@ -151,28 +151,28 @@ method_by : (key : MethodKey) (formals : List (Option Bytes)) (body : List Stmt)
     key.selector.arity ≡ length key.specialisers → IsDecl ts us (method_of x formals key.specialisers body) → IsDecl ts us (d.Method key formals (record { 0 = body }))
 method_by key formals body {x} {ts} {us} name arity h =
     subst (λ n. IsDecl ts us (d.Method (record { selector = record { name = key.selector.name; arity = n }; specialisers = key.specialisers }) formals (record { 0 = body })))
-        (sym arity) (subst (λ y. IsDecl ts us (method_of y formals key.specialisers body)) name h)
+    (sym arity) (subst (λ y. IsDecl ts us (method_of y formals key.specialisers body)) name h)
 
 worded : (x : Bytes) (formals : List (Option Bytes)) (specialisers : List Bytes) (body : List Stmt) (us : List Token) → length specialisers ≤ 8 →
     AreFormalsWritten [] formals specialisers → AreStated body (formal_scope formals) →
     IsDecl (k.Keyword w.Method ∷ k.Word x ∷ k.Mark m.Open ∷ printed_method_formals formals specialisers
-        (k.Mark m.Close ∷ k.Mark m.OpenBlock ∷ printed_statements body (k.Mark m.CloseBlock ∷ us))) us (method_of x formals specialisers body)
+    (k.Mark m.Close ∷ k.Mark m.OpenBlock ∷ printed_statements body (k.Mark m.CloseBlock ∷ us))) us (method_of x formals specialisers body)
 worded x [] [] body us few h stated = g.method_of_none x (list_of body [] (k.Mark m.CloseBlock ∷ us) stated)
 worded x (y ∷ ys) (t ∷ specialisers) body us few h stated =
     g.method x (formals_of false (suc (length ys)) (few_fit (suc (length ys)) (let p = same_length [] (y ∷ ys) (t ∷ specialisers) h in omega (arith, p, few))) ys specialisers [] [] y t
-            (k.Mark m.OpenBlock ∷ printed_statements body (k.Mark m.CloseBlock ∷ us)) (omega arith) h)
-        (list_of body (formal_scope (y ∷ ys)) (k.Mark m.CloseBlock ∷ us) stated)
+    (k.Mark m.OpenBlock ∷ printed_statements body (k.Mark m.CloseBlock ∷ us)) (omega arith) h)
+    (list_of body (formal_scope (y ∷ ys)) (k.Mark m.CloseBlock ∷ us) stated)
 worded x [] (t ∷ specialisers) body us few h stated = absurd (let p = same_length [] [] (t ∷ specialisers) h in omega (arith, p))
 worded x (y ∷ ys) [] body us few h stated = absurd (let p = same_length [] (y ∷ ys) [] h in omega (arith, p))
 
 signed : (op : Operator) (formals : List (Option Bytes)) (specialisers : List Bytes) (body : List Stmt) (us : List Token) → length specialisers ≡ 2 →
     AreFormalsWritten [] formals specialisers → AreStated body (formal_scope formals) →
     IsDecl (k.Keyword w.Method ∷ k.Operator op ∷ k.Mark m.Open ∷ printed_method_formals formals specialisers
-        (k.Mark m.Close ∷ k.Mark m.OpenBlock ∷ printed_statements body (k.Mark m.CloseBlock ∷ us))) us (method_of (spelling op) formals specialisers body)
+    (k.Mark m.Close ∷ k.Mark m.OpenBlock ∷ printed_statements body (k.Mark m.CloseBlock ∷ us))) us (method_of (spelling op) formals specialisers body)
 signed op (y ∷ ys) (t ∷ specialisers) body us two h stated =
     g.operator op (formals_of true 2 two_fit ys specialisers [] [] y t
-            (k.Mark m.OpenBlock ∷ printed_statements body (k.Mark m.CloseBlock ∷ us)) (let p = same_length [] (y ∷ ys) (t ∷ specialisers) h in omega (arith, p, two)) h)
-        (list_of body (formal_scope (y ∷ ys)) (k.Mark m.CloseBlock ∷ us) stated)
+    (k.Mark m.OpenBlock ∷ printed_statements body (k.Mark m.CloseBlock ∷ us)) (let p = same_length [] (y ∷ ys) (t ∷ specialisers) h in omega (arith, p, two)) h)
+    (list_of body (formal_scope (y ∷ ys)) (k.Mark m.CloseBlock ∷ us) stated)
 signed op [] specialisers body us two h stated = absurd (let p = same_length [] [] specialisers h in omega (arith, p, two))
 signed op (y ∷ ys) [] body us two h stated = absurd (omega (arith, two))
 
@@ -184,8 +184,8 @@ decl_of (d.Field key start false) us h = g.field key.name h.1 (g.nameless key.sp
 decl_of (d.Field key start true) us h = g.var_field key.name h.1 (g.nameless key.specialiser) (start_of start us h.3)
 decl_of (d.Method key formals body) us h =
     (elim (operator_of key.selector.name) as (λ o. IsSent o key.selector.name (length key.specialisers) →
-        IsDecl (k.Keyword w.Method ∷ message o key.selector.name ∷ k.Mark m.Open ∷ printed_method_formals formals key.specialisers
-            (k.Mark m.Close ∷ k.Mark m.OpenBlock ∷ printed_statements body.0 (k.Mark m.CloseBlock ∷ us))) us (d.Method key formals body)) [
+    IsDecl (k.Keyword w.Method ∷ message o key.selector.name ∷ k.Mark m.Open ∷ printed_method_formals formals key.specialisers
+    (k.Mark m.Close ∷ k.Mark m.OpenBlock ∷ printed_statements body.0 (k.Mark m.CloseBlock ∷ us))) us (d.Method key formals body)) [
       | None ↦ λ sent. method_by key formals body.0 refl h.1 (worded key.selector.name formals key.specialisers body.0 us sent.1 h.2 h.3)
       | Some op ↦ λ sent. method_by key formals body.0 sent.0 h.1 (signed op formals key.specialisers body.0 us sent.1 h.2 h.3)
     ]) h.0

@@ -32,15 +32,15 @@ neg_of part (q.Compare field how (pos n)) us h = g.compare field (compares_by ho
 neg_of part (q.Compare field how (negsuc n)) us h = g.compare_negative field (compares_by how) (suc n) h.1 h.2 (compared how)
 neg_of part (q.And' s (more_of-Test a end_of-Test) s' (more_of-Test b end_of-Test)) us h =
     subst (λ v. IsNeg (printed_test part (q.And' s (more_of-Test a end_of-Test) s' (more_of-Test b end_of-Test)) us) us v) (and_is s a s' b)
-        (g.bracketed (g.test (g.conj (neg_of true a _ h.0) (g.more_ands (neg_of true b (k.Mark m.Close ∷ us) h.1) g.no_more_ands)) g.no_more_ors))
+    (g.bracketed (g.test (g.conj (neg_of true a _ h.0) (g.more_ands (neg_of true b (k.Mark m.Close ∷ us) h.1) g.no_more_ands)) g.no_more_ors))
 neg_of part (q.Or' s (more_of-Test a end_of-Test) s' (more_of-Test b end_of-Test)) us h =
     subst (λ v. IsNeg (printed_test part (q.Or' s (more_of-Test a end_of-Test) s' (more_of-Test b end_of-Test)) us) us v) (or_is s a s' b)
-        (g.bracketed (g.test (g.conj (neg_of true a _ h.0) g.no_more_ands) (g.more_ors (g.conj (neg_of true b (k.Mark m.Close ∷ us) h.1) g.no_more_ands) g.no_more_ors)))
+    (g.bracketed (g.test (g.conj (neg_of true a _ h.0) g.no_more_ands) (g.more_ors (g.conj (neg_of true b (k.Mark m.Close ∷ us) h.1) g.no_more_ands) g.no_more_ors)))
 neg_of false (q.Not' s (more_of-Test a end_of-Test)) us h =
     subst (λ v. IsNeg (printed_test false (q.Not' s (more_of-Test a end_of-Test)) us) us v) (not_is s a) (g.negation (neg_of false a us h))
 neg_of true (q.Not' s (more_of-Test a end_of-Test)) us h =
     subst (λ v. IsNeg (printed_test true (q.Not' s (more_of-Test a end_of-Test)) us) us v) (not_is s a)
-        (g.bracketed (test_of (g.negation (neg_of false a (k.Mark m.Close ∷ us) h))))
+    (g.bracketed (test_of (g.negation (neg_of false a (k.Mark m.Close ∷ us) h))))
 
 pub written_test_is_read : (a : Test) (us : List Token) → IsTestWritten a → IsTest (printed_test false a us) us a
 written_test_is_read a us h = test_of (neg_of false a us h)

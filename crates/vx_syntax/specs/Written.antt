@@ -119,7 +119,7 @@ IsDeclWritten (d.Predicate x parents test) = IsWord x × AreNames parents × IsT
 IsDeclWritten (d.Field key start changeable) = IsWord key.name × (length key.name ≤ max_field_bytes) × IsWord key.specialiser × IsStartWritten start
 IsDeclWritten (d.Method key formals body) =
     IsSent (operator_of key.selector.name) key.selector.name (length key.specialisers) × (key.selector.arity ≡ length key.specialisers)
-        × AreFormalsWritten [] formals key.specialisers × AreStated body.0 (formal_scope formals)
+    × AreFormalsWritten [] formals key.specialisers × AreStated body.0 (formal_scope formals)
 
 -- The key stands in some text.
 abbrev pub IsKeyWritten : DeclKey → Type 0
@@ -128,4 +128,4 @@ IsKeyWritten (y.Predicate x) = IsWord x
 IsKeyWritten (y.Field key) = IsWord key.name × (length key.name ≤ max_field_bytes) × IsWord key.specialiser
 IsKeyWritten (y.Method key) =
     IsSent (operator_of key.selector.name) key.selector.name (length key.specialisers) × (key.selector.arity ≡ length key.specialisers)
-        × AllByRecursion IsWord key.specialisers
+    × AllByRecursion IsWord key.specialisers

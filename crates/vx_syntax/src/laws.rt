@@ -1,0 +1,25 @@
+ghost use Rattle.std.specs.Prelude.{List};
+ghost use Rattle.vx_syntax.specs.declared.token.Token.{Token};
+ghost use Rattle.vx_syntax.specs.declared.decl.Decl.{Decl};
+ghost use Rattle.vx_names.specs.declared.key.DeclKey.{DeclKey};
+ghost use Rattle.vx_syntax.specs.Words.{AreMeant};
+ghost use Rattle.vx_syntax.specs.Declarations.{IsDecl, IsKey};
+ghost use Rattle.vx_syntax.specs.Printed.{printed_decl};
+ghost use Rattle.vx_syntax.specs.Written.{IsDeclWritten, IsKeyWritten};
+
+use vx_names::operators_are_names;
+
+/// The canonical tokens of a declaration that can be written mean that declaration, whatever follows them, and bytes
+/// spell each of them.
+pub fn written_declarations_are_read()
+    ensures read { (decl : Decl) (us : List Token) → IsDeclWritten decl → IsDecl (printed_decl decl us) us decl }
+    ensures meant { (decl : Decl) (us : List Token) → IsDeclWritten decl → AreMeant us → AreMeant (printed_decl decl us) }
+{}
+
+/// What tokens that bytes spell mean as a declaration or as a key can be written.
+pub fn what_is_read_can_be_written()
+    ensures decl { (decl : Decl) (ts us : List Token) → IsDecl ts us decl → AreMeant ts → IsDeclWritten decl }
+    ensures key { (key : DeclKey) (ts us : List Token) → IsKey ts us key → AreMeant ts → IsKeyWritten key }
+{
+    operators_are_names();
+}
