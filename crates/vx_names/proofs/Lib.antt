@@ -1,2 +1,3 @@
 mod Operators
+mod Keys
 pub mod Identifiers
