@@ -3,3 +3,4 @@ pub mod Expressions
 pub mod Tests
 pub mod Declarations
 pub mod Keys
+pub mod Print
