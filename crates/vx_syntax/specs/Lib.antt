@@ -4,3 +4,4 @@ pub mod Tests
 pub mod Declarations
 pub mod Keys
 pub mod Print
+pub mod Counts

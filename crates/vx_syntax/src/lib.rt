@@ -1,12 +1,14 @@
 //! The syntax of declarations, as plain data.
 #![tactic(auto)]
 
+mod count;
 mod decl;
 mod expr;
 mod key;
 mod test;
 mod token;
 
+pub use count::{height, locals, size};
 pub use decl::{Decl, Start};
 pub use expr::{Body, Expr, Stmt};
 pub use key::{key_text, selector_text};
