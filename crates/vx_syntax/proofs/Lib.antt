@@ -6,3 +6,4 @@ pub mod RoundTests
 pub mod RoundDecls
 pub mod ReadDecls
 pub mod Meant
+mod Folds

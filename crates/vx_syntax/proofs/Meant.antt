@@ -22,7 +22,7 @@ use Rattle.vx_syntax.specs.Words.{keyword, IsWord, AreMeant}
 use Rattle.vx_syntax.specs.Expressions.{Bytes, Scope, with_formals, brings}
 use Rattle.vx_syntax.specs.Tests.{and_word, or_word, not_word}
 use Rattle.vx_syntax.specs.Declarations.{any, true_word, false_word, formal_scope}
-use Rattle.vx_syntax.specs.Printed.{printed_number, printed_more_names, printed_names, printed_formals, printed, printed_arguments, printed_more, printed_operands, printed_fields, printed_more_fields, printed_body, printed_next, printed_stmt, printed_test, printed_more_statements, printed_statements, printed_parents, printed_start, printed_formal, printed_more_formals, printed_method_formals, printed_decl, message}
+use Rattle.vx_syntax.specs.PrintedTokens.{printed_number, printed_more_names, printed_names, printed_formals, printed, printed_arguments, printed_more, printed_operands, printed_fields, printed_more_fields, printed_body, printed_next, printed_stmt, printed_test, printed_more_statements, printed_statements, printed_parents, printed_start, printed_formal, printed_more_formals, printed_method_formals, printed_decl, message}
 use Rattle.vx_syntax.specs.Written.{IsLiteral, IsSent, AreNew, count, IsWritten, AreWritten, AreFieldsWritten, IsBodyWritten, IsStmtWritten, IsTestWritten, AreStated, AreNames, IsStartWritten, AreFormalsWritten, IsDeclWritten}
 
 word_and : IsWord and_word

@@ -15,7 +15,7 @@ use Rattle.vx_syntax.specs.declared.expr.Stmt.TheVariants as t
 use Rattle.vx_syntax.specs.Words.{IsWord}
 use Rattle.vx_syntax.specs.Expressions as g
 use Rattle.vx_syntax.specs.Expressions.{Bytes, Scope, Level, is_bound, is_variable, is_back, brings, with_formals, field_names, level, operation, IsExpr, IsPrim, IsArguments, IsFields, IsMoreFormals, IsBody, IsStatements, IsStmt}
-use Rattle.vx_syntax.specs.Printed.{printed, printed_arguments, printed_more, printed_operands, printed_fields, printed_more_fields, printed_formals, printed_more_names, printed_body, printed_next, printed_stmt}
+use Rattle.vx_syntax.specs.PrintedTokens.{printed, printed_arguments, printed_more, printed_operands, printed_fields, printed_more_fields, printed_formals, printed_more_names, printed_body, printed_next, printed_stmt}
 use Rattle.vx_syntax.specs.Written.{count, is_over, IsSent, AreNew, IsWritten, AreWritten, AreFieldsWritten, IsBodyWritten, IsStmtWritten}
 use Rattle.vx_syntax.proofs.Views.{send_is, closure_is, new_is}
 

@@ -23,7 +23,7 @@ use Rattle.vx_syntax.specs.Words.{IsWord}
 use Rattle.vx_syntax.specs.Expressions.{Bytes, Scope, is_bound, with_formals, IsBody}
 use Rattle.vx_syntax.specs.Declarations as g
 use Rattle.vx_syntax.specs.Declarations.{any, named, formal_scope, may_end, may_go_on, method_of, IsNames, IsParents, IsStart, IsBegun, IsFormal, IsFormals, IsDecl}
-use Rattle.vx_syntax.specs.Printed.{printed_more_names, printed_names, printed_body, printed_next, printed_stmt, printed_more_statements, printed_statements, printed_parents, printed_start, printed_formal, printed_more_formals, printed_method_formals, printed_decl, message}
+use Rattle.vx_syntax.specs.PrintedTokens.{printed_more_names, printed_names, printed_body, printed_next, printed_stmt, printed_more_statements, printed_statements, printed_parents, printed_start, printed_formal, printed_more_formals, printed_method_formals, printed_decl, message}
 use Rattle.vx_syntax.specs.Written.{IsSent, AreStated, AreNames, IsStartWritten, AreFormalsWritten, IsDeclWritten}
 use Rattle.vx_syntax.proofs.Views.{the_items_is}
 use Rattle.vx_syntax.proofs.Round.{body_of, with_last}

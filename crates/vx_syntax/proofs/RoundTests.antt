@@ -13,7 +13,7 @@ use Rattle.vx_syntax.specs.declared.test.Test.TheBlock.{hidden-the_row-Test-0}
 use Rattle.vx_syntax.specs.Words.{AreMeant}
 use Rattle.vx_syntax.specs.Tests as g
 use Rattle.vx_syntax.specs.Tests.{comparison, IsTest, IsMoreOrs, IsConj, IsMoreAnds, IsNeg}
-use Rattle.vx_syntax.specs.Printed.{compares_by, printed_test}
+use Rattle.vx_syntax.specs.PrintedTokens.{compares_by, printed_test}
 use Rattle.vx_syntax.specs.Written.{IsTestWritten}
 use Rattle.vx_syntax.proofs.Views.{and_is, or_is, not_is}
 

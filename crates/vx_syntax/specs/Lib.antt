@@ -3,5 +3,7 @@ pub mod Expressions
 pub mod Tests
 pub mod Declarations
 pub mod Keys
-pub mod Printed
+pub mod PrintedTokens
 pub mod Written
+pub mod Print
+pub mod Counts

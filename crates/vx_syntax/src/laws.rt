@@ -4,7 +4,7 @@ ghost use Rattle.vx_syntax.specs.declared.decl.Decl.{Decl};
 ghost use Rattle.vx_names.specs.declared.key.DeclKey.{DeclKey};
 ghost use Rattle.vx_syntax.specs.Words.{AreMeant};
 ghost use Rattle.vx_syntax.specs.Declarations.{IsDecl, IsKey};
-ghost use Rattle.vx_syntax.specs.Printed.{printed_decl};
+ghost use Rattle.vx_syntax.specs.PrintedTokens.{printed_decl};
 ghost use Rattle.vx_syntax.specs.Written.{IsDeclWritten, IsKeyWritten};
 
 use vx_names::operators_are_names;
