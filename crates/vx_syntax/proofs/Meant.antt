@@ -1,5 +1,5 @@
 -- The tokens of what can be written are ones that bytes spell.
-use Rattle.std.proofs.Common.{◌≡◌, ℕ, zero, suc, pos, negsuc, ℤ, Bool, true, false, if◌then◌else◌, List, [], ◌∷◌, length, Option, Some, None, refl, arith}
+use Rattle.std.proofs.Common.{ℕ, pos, negsuc, ℤ, Bool, true, false, if◌then◌else◌, List, [], ◌∷◌, length, Option, Some, None, refl, arith}
 use Rattle.std.specs.List.{AllByRecursion}
 use Rattle.std.specs.Str.{bytes_eq}
 use Rattle.vx_names.specs.declared.operator.Operator.{Operator}
@@ -12,7 +12,7 @@ use Rattle.vx_syntax.specs.declared.expr.Expr.{Expr, Row_of-Expr, end_of-Expr, m
 use Rattle.vx_syntax.specs.declared.expr.Expr.TheVariants as e
 use Rattle.vx_syntax.specs.declared.expr.Stmt.{Stmt}
 use Rattle.vx_syntax.specs.declared.expr.Stmt.TheVariants as t
-use Rattle.vx_syntax.specs.declared.test.Test.{Test, Row_of-Test, end_of-Test, more_of-Test}
+use Rattle.vx_syntax.specs.declared.test.Test.{Test, end_of-Test, more_of-Test}
 use Rattle.vx_syntax.specs.declared.test.Test.TheVariants as q
 use Rattle.vx_syntax.specs.declared.decl.Start.{Start}
 use Rattle.vx_syntax.specs.declared.decl.Start.TheVariants as s
@@ -22,7 +22,7 @@ use Rattle.vx_syntax.specs.Words.{keyword, IsWord, AreMeant}
 use Rattle.vx_syntax.specs.Expressions.{Bytes, Scope, with_formals, brings}
 use Rattle.vx_syntax.specs.Tests.{and_word, or_word, not_word}
 use Rattle.vx_syntax.specs.Declarations.{any, true_word, false_word, formal_scope}
-use Rattle.vx_syntax.specs.PrintedTokens.{printed_number, printed_more_names, printed_names, printed_formals, printed, printed_arguments, printed_more, printed_operands, printed_fields, printed_more_fields, printed_body, printed_next, printed_stmt, printed_test, printed_more_statements, printed_statements, printed_parents, printed_start, printed_formal, printed_more_formals, printed_method_formals, printed_decl, message}
+use Rattle.vx_syntax.specs.PrintedTokens.{printed_number, printed_more_names, printed_formals, printed, printed_arguments, printed_more, printed_operands, printed_fields, printed_more_fields, printed_body, printed_next, printed_stmt, printed_test, printed_more_statements, printed_statements, printed_parents, printed_start, printed_more_formals, printed_method_formals, printed_decl, message}
 use Rattle.vx_syntax.specs.Written.{IsLiteral, IsSent, AreNew, count, IsWritten, AreWritten, AreFieldsWritten, IsBodyWritten, IsStmtWritten, IsTestWritten, AreStated, AreNames, IsStartWritten, AreFormalsWritten, IsDeclWritten}
 
 word_and : IsWord and_word

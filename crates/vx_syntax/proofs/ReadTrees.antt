@@ -1,5 +1,5 @@
 -- What some tokens mean can be written.
-use Rattle.std.proofs.Common.{◌≡◌, ℕ, zero, suc, pos, negsuc, ◌+◌, ◌≤◌, ◌<◌, ◌^◌, Bool, true, false, List, [], ◌∷◌, ◌++◌, length, Option, Some, None, refl, sym, ap, subst, ◌∙◌, arith, append_assoc, append-nil, length-append}
+use Rattle.std.proofs.Common.{◌≡◌, ℕ, zero, suc, ◌+◌, ◌≤◌, false, List, [], ◌∷◌, ◌++◌, length, Some, None, refl, sym, ap, subst, ◌∙◌, arith, append_assoc, length-append}
 use Rattle.std.specs.List.{AllByRecursion}
 use Rattle.vx_names.specs.declared.operator.Operator.{Operator}
 use Rattle.vx_names.specs.Operator.{spelling, operator_of}
@@ -9,13 +9,12 @@ use Rattle.vx_syntax.specs.declared.expr.Expr.{Expr, Row_of-Expr, end_of-Expr, m
 use Rattle.vx_syntax.specs.declared.expr.Expr.TheBlock.{hidden-the_row-Expr-0, hidden-the_row-Stmt-1, hidden-the_row-Expr-New-1-2-2}
 use Rattle.vx_syntax.specs.declared.expr.Expr.TheVariants as e
 use Rattle.vx_syntax.specs.declared.expr.Stmt.{Stmt}
-use Rattle.vx_syntax.specs.declared.expr.Stmt.TheVariants as t
 use Rattle.vx_syntax.specs.Words.{IsWord, AreMeant}
 use Rattle.vx_syntax.specs.Expressions as g
 use Rattle.vx_syntax.specs.Expressions.{Bytes, Scope, is_bound, is_among, is_back, brings, with_formals, field_names, operation, IsExpr, IsMoreCompares, IsSum, IsMoreSums, IsProduct, IsMoreProducts, IsPrim, IsArguments, IsFields, IsFormals, IsMoreFormals, IsBody, IsStatements, IsStmt}
-use Rattle.vx_syntax.specs.Written.{count, is_over, IsLiteral, IsSent, AreNew, IsWritten, AreWritten, AreFieldsWritten, IsBodyWritten, IsStmtWritten, is_last, AreStated}
+use Rattle.vx_syntax.specs.Written.{count, is_over, IsSent, AreNew, IsWritten, AreWritten, AreFieldsWritten, IsBodyWritten, IsStmtWritten, is_last, AreStated}
 use Rattle.vx_syntax.proofs.Views.{the_items_is}
-use Rattle.vx_syntax.proofs.Round.{count_is, with_last, names_push}
+use Rattle.vx_syntax.proofs.Round.{count_is, names_push}
 
 abbrev AllWritten : Scope → List Expr → Type 0
 AllWritten scope = AllByRecursion (λ a. IsWritten a scope)

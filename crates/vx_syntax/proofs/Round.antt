@@ -1,7 +1,6 @@
 -- A tree that can be written is read back from its tokens.
-use Rattle.std.proofs.Common.{◌≡◌, ℕ, suc, pos, negsuc, ◌+◌, ◌≤◌, ◌<◌, Bool, true, false, List, [], ◌∷◌, ◌++◌, length, map, Option, Some, None, refl, sym, ap, subst, ◌∙◌, arith, append_assoc, append-nil, length-append}
+use Rattle.std.proofs.Common.{◌≡◌, ℕ, suc, pos, negsuc, ◌+◌, ◌≤◌, Bool, true, false, List, [], ◌∷◌, ◌++◌, length, Some, None, refl, sym, ap, subst, ◌∙◌, arith, append_assoc, length-append}
 use Rattle.vx_names.specs.declared.operator.Operator.{Operator}
-use Rattle.vx_names.specs.declared.operator.Operator.TheVariants as o
 use Rattle.vx_names.specs.declared.key.Selector.{Selector}
 use Rattle.vx_names.specs.Operator.{spelling, operator_of}
 use Rattle.vx_syntax.specs.declared.token.Token.{Token}
@@ -12,7 +11,6 @@ use Rattle.vx_syntax.specs.declared.expr.Expr.{Expr, Row_of-Expr, end_of-Expr, m
 use Rattle.vx_syntax.specs.declared.expr.Expr.TheVariants as e
 use Rattle.vx_syntax.specs.declared.expr.Stmt.{Stmt}
 use Rattle.vx_syntax.specs.declared.expr.Stmt.TheVariants as t
-use Rattle.vx_syntax.specs.Words.{IsWord}
 use Rattle.vx_syntax.specs.Expressions as g
 use Rattle.vx_syntax.specs.Expressions.{Bytes, Scope, Level, is_bound, is_variable, is_back, brings, with_formals, field_names, level, operation, IsExpr, IsPrim, IsArguments, IsFields, IsMoreFormals, IsBody, IsStatements, IsStmt}
 use Rattle.vx_syntax.specs.PrintedTokens.{printed, printed_arguments, printed_more, printed_operands, printed_fields, printed_more_fields, printed_formals, printed_more_names, printed_body, printed_next, printed_stmt}

@@ -1,12 +1,10 @@
 -- A declaration that can be written is read back from its tokens.
-use Rattle.std.proofs.Common.{◌≡◌, ℕ, zero, suc, pos, negsuc, ◌+◌, ◌≤◌, ◌<◌, Bool, true, false, if◌then◌else◌, List, [], ◌∷◌, ◌++◌, length, Option, Some, None, refl, sym, ap, subst, ◌∙◌, arith, append_assoc, length-append}
+use Rattle.std.proofs.Common.{◌≡◌, ℕ, suc, pos, negsuc, ◌+◌, ◌≤◌, ◌<◌, Bool, true, false, if◌then◌else◌, List, [], ◌∷◌, ◌++◌, length, Option, Some, None, refl, sym, ap, subst, ◌∙◌, arith, append_assoc, length-append}
 use Rattle.std.proofs.lemmas.Slice.Eq.{bytes_eq-Decides}
 use Rattle.std.proofs.lemmas.Bool.{lt-ltb}
 use Rattle.std.specs.Str.{bytes_eq}
-use Rattle.std.specs.List.{AllByRecursion}
 use Rattle.vx_names.specs.declared.operator.Operator.{Operator}
 use Rattle.vx_names.specs.declared.key.MethodKey.{MethodKey}
-use Rattle.vx_names.specs.declared.key.FieldKey.{FieldKey}
 use Rattle.vx_names.specs.Operator.{spelling, operator_of}
 use Rattle.vx_syntax.specs.declared.token.Token.{Token}
 use Rattle.vx_syntax.specs.declared.token.Token.TheVariants as k
@@ -19,11 +17,10 @@ use Rattle.vx_syntax.specs.declared.decl.Start.{Start}
 use Rattle.vx_syntax.specs.declared.decl.Start.TheVariants as s
 use Rattle.vx_syntax.specs.declared.decl.Decl.{Decl}
 use Rattle.vx_syntax.specs.declared.decl.Decl.TheVariants as d
-use Rattle.vx_syntax.specs.Words.{IsWord}
 use Rattle.vx_syntax.specs.Expressions.{Bytes, Scope, is_bound, with_formals, IsBody}
 use Rattle.vx_syntax.specs.Declarations as g
 use Rattle.vx_syntax.specs.Declarations.{any, named, formal_scope, may_end, may_go_on, method_of, IsNames, IsParents, IsStart, IsBegun, IsFormal, IsFormals, IsDecl}
-use Rattle.vx_syntax.specs.PrintedTokens.{printed_more_names, printed_names, printed_body, printed_next, printed_stmt, printed_more_statements, printed_statements, printed_parents, printed_start, printed_formal, printed_more_formals, printed_method_formals, printed_decl, message}
+use Rattle.vx_syntax.specs.PrintedTokens.{printed_more_names, printed_body, printed_next, printed_stmt, printed_more_statements, printed_statements, printed_parents, printed_start, printed_formal, printed_more_formals, printed_method_formals, printed_decl, message}
 use Rattle.vx_syntax.specs.Written.{IsSent, AreStated, AreNames, IsStartWritten, AreFormalsWritten, IsDeclWritten}
 use Rattle.vx_syntax.proofs.Views.{the_items_is}
 use Rattle.vx_syntax.proofs.Round.{body_of, with_last}

@@ -1,5 +1,5 @@
 -- The canonical text of trees as tokens: `printed a us` are the tokens of a, with the tokens us after them.
-use Rattle.std.specs.Prelude.{ℕ, ℤ, pos, negsuc, suc, Bool, true, false, if◌then◌else◌, List, [], ◌∷◌, Option, Some, None}
+use Rattle.std.specs.Prelude.{ℤ, pos, negsuc, suc, Bool, true, false, if◌then◌else◌, List, [], ◌∷◌, Option, Some, None}
 use Rattle.std.specs.Str.{bytes_eq}
 use Rattle.vx_names.specs.declared.key.FieldKey.{FieldKey}
 use Rattle.vx_names.specs.declared.operator.Operator.{Operator}
@@ -15,7 +15,7 @@ use Rattle.vx_syntax.specs.declared.expr.Stmt.{Stmt}
 use Rattle.vx_syntax.specs.declared.expr.Stmt.TheVariants as t
 use Rattle.vx_syntax.specs.declared.test.Compare.{Compare}
 use Rattle.vx_syntax.specs.declared.test.Compare.TheVariants as c
-use Rattle.vx_syntax.specs.declared.test.Test.{Test, Row_of-Test, end_of-Test, more_of-Test}
+use Rattle.vx_syntax.specs.declared.test.Test.{Test, end_of-Test, more_of-Test}
 use Rattle.vx_syntax.specs.declared.test.Test.TheVariants as q
 use Rattle.vx_syntax.specs.declared.decl.Start.{Start}
 use Rattle.vx_syntax.specs.declared.decl.Start.TheVariants as s

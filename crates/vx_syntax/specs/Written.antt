@@ -1,5 +1,5 @@
 -- Which trees stand in some text: those whose names, numbers and strings are spelled by tokens, and which keep the rules of scope and number.
-use Rattle.std.specs.Prelude.{◌≡◌, ℕ, ℤ, pos, negsuc, suc, ◌+◌, ◌<◌, ◌≤◌, ◌^◌, Bool, true, false, List, [], ◌∷◌, ◌++◌, length, Option, Some, None}
+use Rattle.std.specs.Prelude.{◌≡◌, ℕ, ℤ, pos, negsuc, suc, ◌<◌, ◌≤◌, ◌^◌, Bool, true, false, List, [], ◌∷◌, ◌++◌, length, Option, Some, None}
 use Rattle.std.specs.List.{AllByRecursion}
 use Rattle.vx_names.specs.declared.key.DeclKey.{DeclKey}
 use Rattle.vx_names.specs.declared.key.DeclKey.TheVariants as y
@@ -9,7 +9,7 @@ use Rattle.vx_syntax.specs.declared.expr.Expr.{Expr, Row_of-Expr, end_of-Expr, m
 use Rattle.vx_syntax.specs.declared.expr.Expr.TheVariants as e
 use Rattle.vx_syntax.specs.declared.expr.Stmt.{Stmt}
 use Rattle.vx_syntax.specs.declared.expr.Stmt.TheVariants as t
-use Rattle.vx_syntax.specs.declared.test.Test.{Test, Row_of-Test, end_of-Test, more_of-Test}
+use Rattle.vx_syntax.specs.declared.test.Test.{Test, end_of-Test, more_of-Test}
 use Rattle.vx_syntax.specs.declared.test.Test.TheVariants as q
 use Rattle.vx_syntax.specs.declared.decl.Start.{Start}
 use Rattle.vx_syntax.specs.declared.decl.Start.TheVariants as s
