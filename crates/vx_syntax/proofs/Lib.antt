@@ -7,3 +7,4 @@ pub mod RoundDecls
 pub mod ReadDecls
 pub mod Meant
 mod Folds
+mod Layers
