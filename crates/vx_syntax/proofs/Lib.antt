@@ -8,3 +8,5 @@ pub mod ReadDecls
 pub mod Meant
 mod Folds
 mod Layers
+mod Heights
+mod Shallow
