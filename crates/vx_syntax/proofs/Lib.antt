@@ -10,3 +10,4 @@ mod Folds
 mod Layers
 mod Heights
 mod Shallow
+mod ShallowDecls

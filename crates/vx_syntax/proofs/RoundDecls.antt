@@ -32,11 +32,11 @@ next_by_list : {n : _} (row : Row_of-Stmt n) (us : List Token) → printed_next 
 next_by_list end_of-Stmt us = refl
 next_by_list (more_of-Stmt a rest) us = ap (λ ts. k.Mark m.Semicolon ∷ printed_stmt a ts) (next_by_list rest us)
 
-body_by_list : {n : _} (row : Row_of-Stmt n) (us : List Token) → printed_body row us ≡ printed_statements (items-the_row-Stmt n row) us
+pub body_by_list : {n : _} (row : Row_of-Stmt n) (us : List Token) → printed_body row us ≡ printed_statements (items-the_row-Stmt n row) us
 body_by_list end_of-Stmt us = refl
 body_by_list (more_of-Stmt a rest) us = ap (λ ts. printed_stmt a ts) (next_by_list rest us)
 
-body_is : (body : List Stmt) → items-the_row-Stmt _ (hidden-the_row-Stmt-1 body) ≡ body
+pub body_is : (body : List Stmt) → items-the_row-Stmt _ (hidden-the_row-Stmt-1 body) ≡ body
 body_is body = items_hidden-the_row-Stmt-1 body ∙ the_items_is Stmt body
 
 list_of : (body : List Stmt) (scope : Scope) (us : List Token) → AreStated body scope → IsBody scope (printed_statements body us) us body

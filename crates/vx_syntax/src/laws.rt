@@ -1,9 +1,12 @@
-ghost use Rattle.std.specs.Prelude.{List};
+ghost use Rattle.std.specs.Prelude.{◌≤◌, List, ◌∷◌, []};
 ghost use Rattle.vx_syntax.specs.declared.token.Token.{Token};
 ghost use Rattle.vx_syntax.specs.declared.decl.Decl.{Decl};
 ghost use Rattle.vx_names.specs.declared.key.DeclKey.{DeclKey};
 ghost use Rattle.vx_syntax.specs.Words.{AreMeant};
-ghost use Rattle.vx_syntax.specs.Declarations.{IsDecl, IsKey};
+ghost use Rattle.vx_syntax.specs.declared.token.Token.TheVariants.{Word};
+ghost use Rattle.vx_syntax.specs.Declarations.{add_word, IsDecl, IsKey};
+ghost use Rattle.vx_syntax.specs.Counts.{height};
+ghost use Rattle.vx_syntax.specs.Depth.{first_levels, IsShallow};
 ghost use Rattle.vx_syntax.specs.PrintedTokens.{printed_decl};
 ghost use Rattle.vx_syntax.specs.Written.{IsDeclWritten, IsKeyWritten};
 
@@ -23,3 +26,8 @@ pub fn what_is_read_can_be_written()
 {
     operators_are_names();
 }
+
+/// The canonical tokens of a declaration that is not higher than 64, behind `add`, lie nowhere too deep.
+pub fn canonical_tokens_are_shallow()
+    ensures { (decl : Decl) → height decl ≤ 64 → IsShallow first_levels (Word add_word ∷ printed_decl decl []) }
+{}
