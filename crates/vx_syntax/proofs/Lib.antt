@@ -1,5 +1,5 @@
 mod Trees
-mod Views
+pub mod Views
 pub mod Round
 pub mod ReadTrees
 pub mod RoundTests
@@ -7,7 +7,8 @@ pub mod RoundDecls
 pub mod ReadDecls
 pub mod Meant
 mod Folds
-mod Layers
+pub mod Layers
 mod Heights
 mod Shallow
 mod ShallowDecls
+mod RoundKeys

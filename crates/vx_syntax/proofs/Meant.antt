@@ -178,7 +178,7 @@ method_formals_meant [] (z ∷ specialisers) us h m = m
 method_formals_meant (Some x ∷ xs) [] us h m = m
 method_formals_meant (None ∷ xs) [] us h m = m
 
-message_meant : (o : Option Operator) (x : Bytes) (n : ℕ) (us : List Token) → IsSent o x n → AreMeant us → AreMeant (message o x ∷ us)
+pub message_meant : (o : Option Operator) (x : Bytes) (n : ℕ) (us : List Token) → IsSent o x n → AreMeant us → AreMeant (message o x ∷ us)
 message_meant None x n us h m = (h.0, m)
 message_meant (Some op) x n us h m = (tt, m)
 

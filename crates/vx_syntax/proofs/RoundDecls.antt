@@ -112,14 +112,14 @@ same_length scope (Some x ∷ xs) [] h = absurd h
 same_length scope (None ∷ xs) [] h = absurd h
 
 -- so many formals may be all, and fewer may go on
-record Fits (operator : Bool) (total : ℕ) : Type 0 where
-  ends : may_end operator total ≡ true
-  goes : (i : ℕ) → i < total → may_go_on operator i ≡ true
+pub record Fits (operator : Bool) (total : ℕ) : Type 0 where
+  pub ends : may_end operator total ≡ true
+  pub goes : (i : ℕ) → i < total → may_go_on operator i ≡ true
 
-few_fit : (n : ℕ) → n ≤ 8 → Fits false n
+pub few_fit : (n : ℕ) → n ≤ 8 → Fits false n
 few_fit n few = record { ends = refl; goes = λ i less. lt-ltb i 8 (omega (arith, few, less)) }
 
-two_fit : Fits true 2
+pub two_fit : Fits true 2
 two_fit = record { ends = refl; goes = goes }
   where
     goes : (i : ℕ) → i < 2 → may_go_on true i ≡ true

@@ -7,7 +7,7 @@ ghost use Rattle.vx_syntax.specs.declared.token.Token.TheVariants.{Word};
 ghost use Rattle.vx_syntax.specs.Declarations.{add_word, IsDecl, IsKey};
 ghost use Rattle.vx_syntax.specs.Counts.{height};
 ghost use Rattle.vx_syntax.specs.Depth.{first_levels, IsShallow};
-ghost use Rattle.vx_syntax.specs.PrintedTokens.{printed_decl};
+ghost use Rattle.vx_syntax.specs.PrintedTokens.{printed_decl, printed_key};
 ghost use Rattle.vx_syntax.specs.Written.{IsDeclWritten, IsKeyWritten};
 
 use vx_names::operators_are_names;
@@ -17,6 +17,12 @@ use vx_names::operators_are_names;
 pub fn written_declarations_are_read()
     ensures read { (decl : Decl) (us : List Token) → IsDeclWritten decl → IsDecl (printed_decl decl us) us decl }
     ensures meant { (decl : Decl) (us : List Token) → IsDeclWritten decl → AreMeant us → AreMeant (printed_decl decl us) }
+{}
+
+/// The canonical tokens of a key that can be written mean that key, whatever follows them, and bytes spell each of them.
+pub fn written_keys_are_read()
+    ensures read { (key : DeclKey) (us : List Token) → IsKeyWritten key → IsKey (printed_key key us) us key }
+    ensures meant { (key : DeclKey) (us : List Token) → IsKeyWritten key → AreMeant us → AreMeant (printed_key key us) }
 {}
 
 /// What tokens that bytes spell mean as a declaration or as a key can be written.

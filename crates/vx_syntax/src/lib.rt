@@ -15,6 +15,7 @@ pub use expr::{Body, Expr, Stmt};
 pub use key::{key_text, selector_text};
 pub use laws::{
     canonical_tokens_are_shallow, what_is_read_can_be_written, written_declarations_are_read,
+    written_keys_are_read,
 };
 pub use test::{Compare, Test};
 pub use token::{Keyword, Mark, TEXT_BYTES, Token, is_printable};
