@@ -1,2 +1,3 @@
 mod Trees
 mod Folds
+mod Texts

@@ -1,8 +1,8 @@
 //! The keys of declarations, and their texts.
 
-ghost use Rattle.std.specs.Prelude.{◌≡◌, ◌++◌, [], IfOk, OnOk};
+ghost use Rattle.std.specs.Prelude.{◌≡◌, ◌++◌, [], map, codes, IfOk, OnOk};
 ghost use Rattle.vx_syntax.specs.Keys.{key_of};
-ghost use Rattle.vx_syntax.specs.Print.{key_text, selector_text, specialisers_text};
+ghost use Rattle.vx_syntax.specs.Print.{key_text, selector_text, specialiser_text, joined};
 
 use crate::decl::Decl;
 use std::alloc::{AllocError, Global};
@@ -48,7 +48,7 @@ pub fn key_text(alloc: Global, key: &DeclKey) -> Result<Vec<u8>, AllocError>
 }
 
 fn append_specialisers(text: &mut Vec<u8>, specialisers: &[Name]) -> Result<(), AllocError>
-    ensures { OnOk result (text.new.items ≡ text.old.items ++ specialisers_text [] specialisers.now) }
+    ensures { OnOk result (text.new.items ≡ text.old.items ++ joined [] (codes ",") (map specialiser_text specialisers.now)) }
 {
     let mut lead = b"".as_slice();
     for specialiser in specialisers {

@@ -5,6 +5,7 @@ mod count;
 mod decl;
 mod expr;
 mod key;
+mod print;
 mod test;
 mod token;
 
@@ -12,5 +13,6 @@ pub use count::{height, locals, size};
 pub use decl::{Decl, Start};
 pub use expr::{Body, Expr, Stmt};
 pub use key::{key_text, selector_text};
+pub use print::print_decl;
 pub use test::{Compare, Test};
 pub use token::{Keyword, Mark, TEXT_BYTES, Token, is_printable};
