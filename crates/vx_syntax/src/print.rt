@@ -5,14 +5,41 @@ ghost use Rattle.std.specs.Fmt.{signed_decimal};
 ghost use Rattle.std.specs.List.{zip};
 ghost use Rattle.std.specs.Str.{bytes_eq};
 ghost use Rattle.vx_names.specs.Bytes.{is_letter};
+ghost use Rattle.vx_syntax.specs.declared.decl.Decl.TheVariants as d;
 ghost use Rattle.vx_syntax.specs.Declarations.{any};
 ghost use Rattle.vx_syntax.specs.Print as spec;
 
 use crate::decl::{Decl, Start};
 use crate::expr::{Body, Expr, Stmt};
+use crate::key::append_field_key;
 use crate::test::{Compare, Test};
 use std::alloc::{AllocError, Global};
 use vx_names::{FieldKey, MethodKey, Name, is_letter};
+
+/// The canonical text of the declaration.
+pub fn print_decl(alloc: Global, decl: &Decl) -> Result<Vec<u8>, AllocError>
+    ensures { IfOk result (λ text. text.items ≡ spec.decl_text decl.now) }
+{
+    let mut text = Vec::new(alloc);
+    match decl {
+        Decl::Object { name, parents } => append_object(&mut text, name, parents.as_slice())?,
+        Decl::Predicate {
+            name,
+            parents,
+            test,
+        } => append_predicate(alloc, &mut text, name, parents.as_slice(), test)?,
+        Decl::Field {
+            key,
+            start,
+            changeable,
+        } => append_field(alloc, &mut text, key, start, *changeable)?,
+        Decl::Method { key, formals, body } => {
+            append_head(&mut text, key, formals.as_slice())?;
+            append_body(alloc, &mut text, body)?;
+        }
+    }
+    Ok(text)
+}
 
 fn append_number(alloc: Global, text: &mut Vec<u8>, n: i128) -> Result<(), AllocError>
     ensures { OnOk result (text.new.items ≡ text.old.items ++ signed_decimal n) }
@@ -351,46 +378,31 @@ fn append_formals(
     Ok(())
 }
 
-/// The canonical text of the declaration.
-pub fn print_decl(alloc: Global, decl: &Decl) -> Result<Vec<u8>, AllocError>
-    ensures { IfOk result (λ text. text.items ≡ spec.decl_text decl.now) }
+fn append_object(text: &mut Vec<u8>, name: &Name, parents: &[Name]) -> Result<(), AllocError>
+    ensures { OnOk result (text.new.items ≡ text.old.items ++ spec.decl_text (d.Object name.now parents.now)) }
 {
-    let mut text = Vec::new(alloc);
-    match decl {
-        Decl::Object { name, parents } => {
-            text.extend_from_slice(b"object ")?;
-            text.extend_from_slice(name.bytes())?;
-            if !is_plain(parents.as_slice()) {
-                append_parents(&mut text, parents.as_slice())?;
-            }
-        }
-        Decl::Predicate {
-            name,
-            parents,
-            test,
-        } => {
-            text.extend_from_slice(b"predicate ")?;
-            text.extend_from_slice(name.bytes())?;
-            append_parents(&mut text, parents.as_slice())?;
-            text.extend_from_slice(b" when ")?;
-            append_test(alloc, &mut text, test, false)?;
-        }
-        Decl::Field {
-            key,
-            start,
-            changeable,
-        } => {
-            if *changeable {
-                text.extend_from_slice(b"var ")?;
-            }
-            append_field(alloc, &mut text, key, start)?;
-        }
-        Decl::Method { key, formals, body } => {
-            append_head(&mut text, key, formals.as_slice())?;
-            append_body(alloc, &mut text, body)?;
-        }
+    text.extend_from_slice(b"object ")?;
+    text.extend_from_slice(name.bytes())?;
+    if is_plain(parents) {
+        return Ok(());
     }
-    Ok(text)
+    append_parents(text, parents)
+}
+
+fn append_predicate(
+    alloc: Global,
+    text: &mut Vec<u8>,
+    name: &Name,
+    parents: &[Name],
+    test: &Test,
+) -> Result<(), AllocError>
+    ensures { OnOk result (text.new.items ≡ text.old.items ++ spec.decl_text (d.Predicate name.now parents.now test.now)) }
+{
+    text.extend_from_slice(b"predicate ")?;
+    text.extend_from_slice(name.bytes())?;
+    append_parents(text, parents)?;
+    text.extend_from_slice(b" when ")?;
+    append_test(alloc, text, test, false)
 }
 
 fn append_field(
@@ -398,14 +410,14 @@ fn append_field(
     text: &mut Vec<u8>,
     key: &FieldKey,
     start: &Start,
+    changeable: bool,
 ) -> Result<(), AllocError>
-    ensures { OnOk result (text.new.items ≡ text.old.items ++ codes "field " ++ key.now.name ++ codes "(@" ++ key.now.specialiser ++ codes ")" ++ spec.start_text start.now) }
+    ensures { OnOk result (text.new.items ≡ text.old.items ++ spec.decl_text (d.Field key.now start.now changeable)) }
 {
-    text.extend_from_slice(b"field ")?;
-    text.extend_from_slice(key.name.bytes())?;
-    text.extend_from_slice(b"(@")?;
-    text.extend_from_slice(key.specialiser.bytes())?;
-    text.push(b')')?;
+    if changeable {
+        text.extend_from_slice(b"var ")?;
+    }
+    append_field_key(text, key)?;
     append_start(alloc, text, start)
 }
 
@@ -415,7 +427,7 @@ fn append_head(
     key: &MethodKey,
     formals: &[Option<Name>],
 ) -> Result<(), AllocError>
-    ensures { OnOk result (text.new.items ≡ text.old.items ++ codes "method " ++ key.now.selector.name ++ codes "(" ++ spec.listed (map spec.formal_text (zip formals.now key.now.specialisers)) ++ codes ") ") }
+    ensures { OnOk result (text.new.items ≡ text.old.items ++ spec.head_text key.now formals.now) }
 {
     text.extend_from_slice(b"method ")?;
     text.extend_from_slice(key.selector.name.bytes())?;
