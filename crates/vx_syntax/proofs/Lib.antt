@@ -12,3 +12,4 @@ mod Heights
 mod Shallow
 mod ShallowDecls
 mod RoundKeys
+mod Texts

@@ -42,7 +42,6 @@ pub fn height(decl: &Decl) -> u64
 }
 
 #[cycle(size)]
-#[tactic(auto, using(crate::proofs::Folds::size_of_new))]
 fn body_size(body: &Body) -> u64
     ensures { result ≡ spec.capped (spec.size body.now) }
 {
@@ -54,7 +53,6 @@ fn body_size(body: &Body) -> u64
 }
 
 #[cycle(size)]
-#[tactic(auto, using(crate::proofs::Folds::size_of_new))]
 fn stmt_size(stmt: &Stmt) -> u64
     ensures { result ≡ spec.capped (spec.stmt_size stmt.now) }
 {
@@ -78,7 +76,6 @@ fn expr_size(expr: &Expr) -> u64
 }
 
 #[cycle(size)]
-#[tactic(auto, using(crate::proofs::Folds::size_of_new))]
 fn exprs_size(exprs: &[Expr]) -> u64
     ensures { result ≡ spec.capped (sum (map spec.expr_size exprs.now)) }
 {
@@ -90,7 +87,6 @@ fn exprs_size(exprs: &[Expr]) -> u64
 }
 
 #[cycle(size)]
-#[tactic(auto, using(crate::proofs::Folds::size_of_new))]
 fn fields_size(fields: &[(Name, Expr)]) -> u64
     ensures { result ≡ spec.capped (sum (map (λ field. spec.expr_size field.1) fields.now)) }
 {
@@ -102,7 +98,6 @@ fn fields_size(fields: &[(Name, Expr)]) -> u64
 }
 
 #[cycle(locals)]
-#[tactic(auto, using(crate::proofs::Folds::locals_of_new))]
 fn body_locals(body: &Body) -> u64
     ensures { result ≡ spec.capped (spec.body_locals body.now) }
 {
@@ -114,7 +109,6 @@ fn body_locals(body: &Body) -> u64
 }
 
 #[cycle(locals)]
-#[tactic(auto, using(crate::proofs::Folds::locals_of_new))]
 fn stmt_locals(stmt: &Stmt) -> u64
     ensures { result ≡ spec.capped (spec.stmt_locals stmt.now) }
 {
@@ -138,7 +132,6 @@ fn expr_locals(expr: &Expr) -> u64
 }
 
 #[cycle(locals)]
-#[tactic(auto, using(crate::proofs::Folds::locals_of_new))]
 fn exprs_locals(exprs: &[Expr]) -> u64
     ensures { result ≡ spec.capped (sum (map spec.expr_locals exprs.now)) }
 {
@@ -150,7 +143,6 @@ fn exprs_locals(exprs: &[Expr]) -> u64
 }
 
 #[cycle(locals)]
-#[tactic(auto, using(crate::proofs::Folds::locals_of_new))]
 fn fields_locals(fields: &[(Name, Expr)]) -> u64
     ensures { result ≡ spec.capped (sum (map (λ field. spec.expr_locals field.1) fields.now)) }
 {
@@ -162,7 +154,6 @@ fn fields_locals(fields: &[(Name, Expr)]) -> u64
 }
 
 #[cycle(height)]
-#[tactic(auto, using(crate::proofs::Folds::height_of_new))]
 fn body_height(body: &Body) -> u64
     ensures { result ≡ spec.capped (spec.body_height body.now) }
 {
@@ -174,7 +165,6 @@ fn body_height(body: &Body) -> u64
 }
 
 #[cycle(height)]
-#[tactic(auto, using(crate::proofs::Folds::height_of_new))]
 fn stmt_height(stmt: &Stmt) -> u64
     ensures { result ≡ spec.capped (spec.stmt_height stmt.now) }
 {
@@ -201,7 +191,6 @@ fn expr_height(expr: &Expr) -> u64
 }
 
 #[cycle(height)]
-#[tactic(auto, using(crate::proofs::Folds::height_of_new))]
 fn exprs_height(exprs: &[Expr]) -> u64
     ensures { result ≡ spec.capped (spec.greatest (map spec.expr_height exprs.now)) }
 {
@@ -213,7 +202,6 @@ fn exprs_height(exprs: &[Expr]) -> u64
 }
 
 #[cycle(height)]
-#[tactic(auto, using(crate::proofs::Folds::height_of_new))]
 fn fields_height(fields: &[(Name, Expr)]) -> u64
     ensures { result ≡ spec.capped (spec.greatest (map (λ field. spec.expr_height field.1) fields.now)) }
 {

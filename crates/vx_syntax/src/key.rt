@@ -1,12 +1,12 @@
 //! The keys of declarations, and their texts.
 
-ghost use Rattle.std.specs.Prelude.{◌≡◌, ◌++◌, [], IfOk, OnOk};
+ghost use Rattle.std.specs.Prelude.{◌≡◌, ◌++◌, [], map, codes, IfOk, OnOk};
 ghost use Rattle.vx_syntax.specs.Keys.{key_of};
-ghost use Rattle.vx_syntax.specs.Print.{key_text, selector_text, specialisers_text};
+ghost use Rattle.vx_syntax.specs.Print.{key_text, field_key_text, selector_text, specialiser_text, joined};
 
 use crate::decl::Decl;
 use std::alloc::{AllocError, Global};
-use vx_names::{DeclKey, Name, Selector};
+use vx_names::{DeclKey, FieldKey, Name, Selector};
 
 impl Decl {
     /// What the declaration is found by.
@@ -30,13 +30,7 @@ pub fn key_text(alloc: Global, key: &DeclKey) -> Result<Vec<u8>, AllocError>
     match key {
         DeclKey::Object(name) => text.extend_from_slice(name.bytes())?,
         DeclKey::Predicate(name) => text.extend_from_slice(name.bytes())?,
-        DeclKey::Field(key) => {
-            text.extend_from_slice(b"field ")?;
-            text.extend_from_slice(key.name.bytes())?;
-            text.extend_from_slice(b"(@")?;
-            text.extend_from_slice(key.specialiser.bytes())?;
-            text.push(b')')?;
-        }
+        DeclKey::Field(key) => append_field_key(&mut text, key)?,
         DeclKey::Method(key) => {
             text.extend_from_slice(key.selector.name.bytes())?;
             text.push(b'(')?;
@@ -47,8 +41,18 @@ pub fn key_text(alloc: Global, key: &DeclKey) -> Result<Vec<u8>, AllocError>
     Ok(text)
 }
 
+pub(crate) fn append_field_key(text: &mut Vec<u8>, key: &FieldKey) -> Result<(), AllocError>
+    ensures { OnOk result (text.new.items ≡ text.old.items ++ field_key_text key.now) }
+{
+    text.extend_from_slice(b"field ")?;
+    text.extend_from_slice(key.name.bytes())?;
+    text.extend_from_slice(b"(@")?;
+    text.extend_from_slice(key.specialiser.bytes())?;
+    text.extend_from_slice(b")")
+}
+
 fn append_specialisers(text: &mut Vec<u8>, specialisers: &[Name]) -> Result<(), AllocError>
-    ensures { OnOk result (text.new.items ≡ text.old.items ++ specialisers_text [] specialisers.now) }
+    ensures { OnOk result (text.new.items ≡ text.old.items ++ joined [] (codes ",") (map specialiser_text specialisers.now)) }
 {
     let mut lead = b"".as_slice();
     for specialiser in specialisers {

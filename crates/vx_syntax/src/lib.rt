@@ -6,6 +6,7 @@ mod decl;
 mod expr;
 mod key;
 mod laws;
+mod print;
 mod test;
 mod token;
 
@@ -17,5 +18,6 @@ pub use laws::{
     canonical_tokens_are_shallow, what_is_read_can_be_written, written_declarations_are_read,
     written_keys_are_read,
 };
+pub use print::print_decl;
 pub use test::{Compare, Test};
 pub use token::{Keyword, Mark, TEXT_BYTES, Token, is_printable};
