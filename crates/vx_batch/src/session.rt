@@ -40,14 +40,8 @@ impl Session {
         ensures counted { self.new.accepted ≤ self.old.accepted + 1 }
     {
         match block {
-            Block::Whole(bytes) => {
-                let reply = self.read(alloc, bytes.as_slice())?;
-                Ok(reply)
-            }
-            Block::TooLong(len) => {
-                let refusal = text::refused_too_long(alloc, *len)?;
-                Ok(refusal)
-            }
+            Block::Whole(bytes) => self.read(alloc, bytes.as_slice()),
+            Block::TooLong(len) => text::refused_too_long(alloc, *len),
         }
     }
 
