@@ -1,25 +1,12 @@
-ghost use Rattle.std.specs.Prelude.{◌≡◌, IfOk};
+ghost use Rattle.std.specs.Prelude.{◌≡◌};
 ghost use Rattle.vx_names.specs.declared.key.DeclKey.TheVariants.{Object};
 ghost use Rattle.vx_names.specs.Key.{decl_key_cmp};
 ghost use Rattle.vx_syntax.specs.Keys.{key_of};
 ghost use Rattle.vx_program.specs.Program.{has_key};
 
-use std::alloc::{AllocError, Global};
 use std::cmp::Ordering;
 use vx_names::{DeclKey, Name};
 use vx_syntax::Decl;
-
-// The key that the declaration has.
-pub(crate) fn key_of(alloc: Global, decl: &Decl) -> Result<DeclKey, AllocError>
-    ensures { IfOk result (λ key. key ≡ key_of decl.now) }
-{
-    match decl {
-        Decl::Object { name, .. } => Ok(DeclKey::Object(name.copy(alloc)?)),
-        Decl::Predicate { name, .. } => Ok(DeclKey::Predicate(name.copy(alloc)?)),
-        Decl::Field { key, .. } => Ok(DeclKey::Field(key.copy(alloc)?)),
-        Decl::Method { key, .. } => Ok(DeclKey::Method(key.copy(alloc)?)),
-    }
-}
 
 // Whether the declaration is an object of the name.
 pub(crate) fn is_object(decl: &Decl, name: &Name) -> bool

@@ -9,7 +9,7 @@ ghost use Rattle.vx_program.specs.Program.{find, is_there, prelude, IsProgram};
 ghost use Rattle.vx_program.specs.Apply.{first_unknown, with_decl, changed, apply, IsFaultOf, fault_of};
 
 use crate::edit::{Change, Edit, EditFault};
-use crate::key::{compare, is_object, key_of};
+use crate::key::{compare, is_object};
 use sqlite_items::Items;
 use std::alloc::{AllocError, Global};
 use std::cmp::Ordering;
@@ -120,7 +120,7 @@ impl Program {
         ensures fault { IfErr result (λ fault. fault ≡ OutOfMemory) }
     {
         let decl = decl.copy(self.alloc)?;
-        let key = key_of(self.alloc, &decl)?;
+        let key = decl.key(self.alloc)?;
         let place = place_of(self.decls.as_slice(), &key);
         drop(key);
         self.decls.insert(place, decl)?;
