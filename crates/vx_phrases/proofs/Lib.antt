@@ -1,0 +1,3 @@
+pub mod TestComplete
+pub mod TestSound
+pub mod TestFinish
