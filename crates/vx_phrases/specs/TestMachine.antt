@@ -94,7 +94,11 @@ test_step (st.Compared p brackets x how) token = number p brackets x how token
 test_step (st.Signed p brackets x how) token = signed p brackets x how token
 test_step (st.Joined before brackets a) token = joined before brackets a token
 
+abbrev pub whole : Option Test → List Pending → Test → Option Test
+whole before [] a = Some (either before a)
+whole before (p ∷ brackets) a = None
+
 -- the test that is read, where it may end there
 unfoldable pub test_finished : TestState → Option Test
-test_finished (st.Joined before [] a) = Some (either before a)
+test_finished (st.Joined before brackets a) = whole before brackets a
 test_finished state = None
