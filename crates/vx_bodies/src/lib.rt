@@ -1,0 +1,11 @@
+//! The machine that reads the bodies of methods and of closures, token by token.
+#![tactic(auto)]
+
+mod arguments;
+mod laws;
+mod stack;
+mod state;
+
+pub use arguments::Arguments;
+pub use stack::Stack;
+pub use state::{Block, Bracket, Kind, Left, Level, Next, Part, Pending, State, Within};
