@@ -1,6 +1,6 @@
 -- What holds of each reader here, by what its states want: `Remains s ts us v` says that the tokens ts begin with what
 -- completes the state s, the whole means v, and the tokens us follow it.
-use Rattle.std.specs.Prelude.{◌≡◌, ℕ, ◌<◌, ◌^◌, ◌⊎◌, List, [], ◌∷◌, ◌++◌, Option, Some, None, is_none}
+use Rattle.std.specs.Prelude.{◌≡◌, ℕ, ◌⊎◌, List, [], ◌∷◌, ◌++◌, Option, Some, None, is_none}
 use Rattle.std.specs.List.{AllByRecursion}
 use Rattle.vx_syntax.specs.declared.token.Token.{Token}
 use Rattle.vx_syntax.specs.declared.token.Token.TheVariants as k
@@ -38,8 +38,3 @@ pub record Completion {V : Type 0} (Wants : List Token → List Token → V → 
 -- Whether a number goes on does not depend on the number.
 abbrev pub TakesAnyNumber : {S : Type 0} → (S → Token → Option S) → Type 0
 TakesAnyNumber {S} step = (s : S) (m n : ℕ) → is_none (step s (k.Number m)) ≡ is_none (step s (k.Number n))
-
--- a number that fits the language
-abbrev pub IsSmall : Token → Type 0
-IsSmall (k.Number n) = n < 2 ^ 127
-IsSmall token = Unit {0}

@@ -2,11 +2,9 @@
 #![tactic(auto)]
 
 mod laws;
-mod stack;
 mod test_state;
 mod test_steps;
 
 pub use laws::test_steps_follow_the_grammar;
-pub use stack::Stack;
 pub use test_state::{Pending, TestState};
 pub use test_steps::{test_begun, test_finished, test_may_end, test_step};

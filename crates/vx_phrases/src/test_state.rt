@@ -1,5 +1,5 @@
 //! What the reader of tests holds between two tokens.
-use crate::stack::Stack;
+use vx_bodies::Stack;
 use vx_names::Name;
 use vx_syntax::{Compare, Test};
 

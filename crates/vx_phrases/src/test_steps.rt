@@ -2,13 +2,13 @@
 ghost use Rattle.std.specs.Prelude.{◌≡◌, [], ◌∷◌, pos, neg_ℤ, IfOk, MatchOption, is_some, ◌<◌, ◌^◌, length};
 ghost use Rattle.vx_syntax.specs.Tests.{comparison, not_word, and_word, or_word};
 ghost use Rattle.std.specs.Str.{bytes_eq};
-ghost use Rattle.vx_phrases.specs.Laws.{IsSmall};
+ghost use Rattle.vx_bodies.specs.Machine.{IsSmall};
 ghost use Rattle.vx_phrases.specs.TestMachine as spec;
 
-use crate::stack::Stack;
 use crate::test_state::{Pending, TestState};
 use sqlite_items::Boxed;
 use std::alloc::{AllocError, Global};
+use vx_bodies::Stack;
 use vx_names::{Name, Operator};
 use vx_syntax::{Compare, Mark, Test, Token};
 
@@ -381,7 +381,7 @@ fn whole(
 ) -> Result<Option<Test>, AllocError>
     ensures { IfOk result (λ whole. whole ≡ spec.whole before brackets test) }
 {
-    if brackets.is_empty() {
+    if brackets.len() == 0 {
         Ok(Some(either(alloc, before, test)?))
     } else {
         Ok(None)
@@ -408,7 +408,7 @@ pub fn test_may_end(state: &TestState) -> bool
     ensures { result ≡ is_some (spec.test_finished state.now) }
 {
     match state {
-        TestState::Joined(_, brackets, _) => brackets.is_empty(),
+        TestState::Joined(_, brackets, _) => brackets.len() == 0,
         _ => false,
     }
 }
