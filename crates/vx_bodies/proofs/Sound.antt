@@ -150,7 +150,7 @@ unfolding m.first_argument
 of_first_argument x p w (k.Mark mk.Close) ts us c (r.after_operand h) = r.of_none h
 of_first_argument x p w token ts us c h = first_then {w = w} (of_operand no_pending (bracketed (Arguments p x []) w) token ts us c h)
 
-formals_then : {given : List Bytes} {x : Bytes} {p : Pending} {w : Within} {ts us : List Token} {c : List Stmt} → is_bound (with_formals (scope_in w) given) x ≡ false →
+pub formals_then : {given : List Bytes} {x : Bytes} {p : Pending} {w : Within} {ts us : List Token} {c : List Stmt} → is_bound (with_formals (scope_in w) given) x ≡ false →
     AfterPart (pt.Formed given x) p w ts us c →
     (vs : List Token) × (xs : List Bytes) × IsMoreFormals (scope_in w) given (k.Word x ∷ ts) (k.Mark mk.OpenBlock ∷ vs) xs × WantsBody xs p w vs us c
 formals_then {x = x} new (r.last_formal (r.wants_body body)) = (_, _, g.last_formal x new, body)
@@ -199,7 +199,7 @@ unfolding m.parent
 of_parent x p w (k.Mark mk.OpenBlock) ts us c (r.inside h) = r.wants_fields h
 of_parent x p w token ts us c h = r.is_new (of_after p (e.New x []) w token ts us c h)
 
-fields_then : {x f : Bytes} {given : List (Bytes × Expr)} {p : Pending} {bs : List Bracket} {kind : Kind} {b : Block} {ts us : List Token} {c : List Stmt} →
+pub fields_then : {x f : Bytes} {given : List (Bytes × Expr)} {p : Pending} {bs : List Bracket} {kind : Kind} {b : Block} {ts us : List Token} {c : List Stmt} →
     length f ≤ max_field_bytes → is_among (field_names given) f ≡ false → WantsExpr (within (Fields p x given f ∷ bs) kind b) ts us c →
     (vs : List Token) × (fields : List (Bytes × Expr)) × IsFields (block_scope b) given (k.Word f ∷ k.Mark mk.Becomes ∷ ts) vs fields ×
     AfterOperand p (e.New x fields) (within bs kind b) vs us c

@@ -299,12 +299,12 @@ constants xs = map (λ x. (x, false)) xs
 -- the fields of the constructors that are open
 abbrev pub open_fields : List Bracket → Scope
 open_fields [] = []
-open_fields (Fields p x given f ∷ bs) = (f, false) ∷ constants (field_names given) ++ open_fields bs
+open_fields (Fields p x given f ∷ bs) = (f, false) ∷ (constants (field_names given) ++ open_fields bs)
 open_fields (_ ∷ bs) = open_fields bs
 
 abbrev pub names_outside : List Level → Scope
 names_outside [] = []
-names_outside (l ∷ ls) = constants l.formals ++ open_fields l.brackets ++ l.declared ++ names_outside ls
+names_outside (l ∷ ls) = constants l.formals ++ (open_fields l.brackets ++ (l.declared ++ names_outside ls))
 
 abbrev pub names_of_block : Block → Scope
 names_of_block b = b.declared ++ names_outside b.levels
