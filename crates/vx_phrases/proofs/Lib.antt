@@ -4,3 +4,7 @@ pub mod TestFinish
 pub mod DeclComplete
 pub mod DeclSound
 pub mod DeclBegins
+pub mod DeclEnds
+pub mod Completions
+pub mod DeclFinish
+pub mod DeclCounts
