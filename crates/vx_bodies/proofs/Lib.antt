@@ -1,0 +1,6 @@
+pub mod Complete
+pub mod Sound
+mod Fresh
+mod Counts
+mod Finish
+mod Ends

@@ -1,0 +1,5 @@
+pub mod Laws
+pub mod TestMachine
+pub mod TestRemains
+pub mod DeclMachine
+pub mod DeclRemains
