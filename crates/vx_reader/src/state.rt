@@ -1,20 +1,21 @@
+use crate::command::Command;
 use sqlite_items::Items;
-use vx_names::Name;
+use vx_phrases::{DeclState, KeyState};
 use vx_program::Change;
 
-/// What is read of an edit, between two tokens. Each state holds the changes that are whole.
+/// What is read of a block, between two tokens.
 #[derive(Drop)]
 pub enum State {
-    /// Nothing is read.
+    /// Nothing.
     Start,
-    /// `add` is read, and a declaration is wanted.
-    Add(Items<Change>),
-    /// `object` is read, and a name is wanted.
-    Object(Items<Change>),
-    /// The name of an object is read.
-    Named(Items<Change>, Name),
-    /// After the name of an object and some of its parents, a parent is wanted.
-    Parent(Items<Change>, Name, Items<Name>),
-    /// The name of an object and one or more of its parents are read.
-    Parents(Items<Change>, Name, Items<Name>),
+    /// `run`
+    Run,
+    /// `mean`
+    Mean,
+    /// A command that no token may follow.
+    Over(Command),
+    /// The changes before, and what is read of a declaration that is added, or put where the flag says so.
+    Declaring(bool, Items<Change>, DeclState),
+    /// The changes before, and what is read of a key that is dropped.
+    Dropping(Items<Change>, KeyState),
 }
