@@ -8,3 +8,5 @@ pub mod DeclEnds
 pub mod Completions
 pub mod DeclFinish
 pub mod DeclCounts
+pub mod KeySteps
+pub mod KeyBegins

@@ -3,3 +3,5 @@ pub mod TestMachine
 pub mod TestRemains
 pub mod DeclMachine
 pub mod DeclRemains
+pub mod KeyMachine
+pub mod KeyRemains

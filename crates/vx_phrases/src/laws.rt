@@ -6,7 +6,7 @@ ghost use Rattle.vx_syntax.specs.declared.test.Test.{Test};
 ghost use Rattle.vx_syntax.specs.declared.decl.Decl.{Decl};
 ghost use Rattle.vx_syntax.specs.Expressions.{Bytes, is_among};
 ghost use Rattle.vx_syntax.specs.Tests.{and_word, or_word, IsTest};
-ghost use Rattle.vx_syntax.specs.Declarations.{IsDecl};
+ghost use Rattle.vx_syntax.specs.Declarations.{IsDecl, IsKey};
 ghost use Rattle.vx_phrases.specs.declared.test_state.TestState.{TestState};
 ghost use Rattle.vx_phrases.specs.Laws.{IsComplete, IsSound, Ends, IsEnd, Completion, TakesAnyNumber};
 ghost use Rattle.vx_phrases.specs.TestMachine.{test_begun, test_step, test_finished};
@@ -14,6 +14,10 @@ ghost use Rattle.vx_phrases.specs.TestRemains.{TestRemains};
 ghost use Rattle.vx_phrases.specs.declared.decl_state.DeclState.{DeclState};
 ghost use Rattle.vx_phrases.specs.DeclMachine.{decl_begun, decl_begins, decl_step, decl_finished, names_in};
 ghost use Rattle.vx_phrases.specs.DeclRemains.{DeclRemains};
+ghost use Rattle.vx_names.specs.declared.key.DeclKey.{DeclKey};
+ghost use Rattle.vx_phrases.specs.declared.key_state.KeyState.{KeyState};
+ghost use Rattle.vx_phrases.specs.KeyMachine.{key_begun, key_step, key_finished};
+ghost use Rattle.vx_phrases.specs.KeyRemains.{KeyRemains};
 
 use vx_bodies::{
     bodies_begin, names_come_singly, numbers_are_alike, states_can_be_finished,
@@ -63,4 +67,16 @@ pub fn decls_end_before_others()
         decl_step s t ≡ None }
     ensures words { (s : DeclState) (v : Decl) (x : Bytes) → decl_finished s ≡ Some v → is_among (and_word ∷ or_word ∷ []) x ≡ false →
         decl_step s (Word x) ≡ None }
+{}
+
+/// The steps of the reader of keys are those of the grammar, and a whole key goes on with nothing.
+pub fn key_steps_follow_the_grammar()
+    ensures complete { IsComplete KeyRemains key_step key_finished }
+    ensures sound { IsSound KeyRemains key_step }
+    ensures ends { Ends KeyRemains key_finished }
+    ensures at_end { IsEnd KeyRemains key_finished }
+    ensures begins { (ts us : List Token) (v : DeclKey) → (KeyRemains key_begun ts us v ↔ IsKey ts us v) }
+    ensures finish { (s : KeyState) → Completion (KeyRemains s) }
+    ensures number { TakesAnyNumber key_step }
+    ensures over { (s : KeyState) (v : DeclKey) (t : Token) → key_finished s ≡ Some v → key_step s t ≡ None }
 {}

@@ -2,14 +2,16 @@
 #![tactic(auto)]
 
 mod decl_state;
+mod key_state;
 mod laws;
 mod test_state;
 mod test_steps;
 
 pub use decl_state::{DeclState, FieldState, Head, Message, MethodState, NamesState};
+pub use key_state::{KeyMessage, KeyState};
 pub use laws::{
     decl_steps_follow_the_grammar, decls_can_be_finished, decls_end_before_others,
-    test_steps_follow_the_grammar,
+    key_steps_follow_the_grammar, test_steps_follow_the_grammar,
 };
 pub use test_state::{Pending, TestState};
 pub use test_steps::{test_begun, test_finished, test_may_end, test_step};
