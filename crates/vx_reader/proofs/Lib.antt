@@ -3,9 +3,5 @@ mod Numbers
 mod Texts
 mod Fronts
 mod Places
-mod Remains
-mod Complete
-mod Sound
-mod Meaning
-mod Readings
 mod Rows
+mod Steps

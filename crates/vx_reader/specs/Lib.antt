@@ -1,6 +1,6 @@
 pub mod Bytes
 pub mod Strings
 pub mod Tokens
-pub mod Grammar
-pub mod Machine
-pub mod Reads
+pub mod Commands
+pub mod CommandMachine
+pub mod CommandRemains

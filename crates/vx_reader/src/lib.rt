@@ -4,10 +4,7 @@
 mod bytes;
 mod command;
 mod front;
-mod laws;
-mod machine;
 mod number;
-mod reader;
 mod sign;
 mod spelling;
 mod state;
@@ -16,10 +13,5 @@ mod token;
 mod tokenizer;
 
 pub use command::{Command, ReadFault};
-pub use laws::{every_block_is_read, one_reading};
-pub use reader::read_block;
 pub use token::Placed;
 pub use tokenizer::tokens;
-
-#[cfg(test)]
-mod tests;
