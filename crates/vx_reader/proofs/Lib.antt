@@ -5,3 +5,4 @@ mod Fronts
 mod Places
 mod Rows
 mod Steps
+mod Courses

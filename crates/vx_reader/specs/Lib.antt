@@ -4,3 +4,4 @@ pub mod Tokens
 pub mod Commands
 pub mod CommandMachine
 pub mod CommandRemains
+pub mod Reads
