@@ -6,3 +6,4 @@ mod Places
 mod Rows
 mod Steps
 mod Courses
+mod Answered
