@@ -3,12 +3,15 @@
 
 mod decl_state;
 mod key_state;
+mod key_steps;
 mod laws;
 mod test_state;
 mod test_steps;
+mod words;
 
 pub use decl_state::{DeclState, FieldState, Head, Message, MethodState, NamesState};
 pub use key_state::{KeyMessage, KeyState};
+pub use key_steps::{key_begun, key_finished, key_is_whole, key_step};
 pub use laws::{
     decl_steps_follow_the_grammar, decls_can_be_finished, decls_end_before_others,
     key_steps_follow_the_grammar, test_steps_follow_the_grammar,
