@@ -1,8 +1,11 @@
 //! The machine that reads the bodies of methods and of closures, token by token.
 #![tactic(auto)]
 
+mod after;
 mod arguments;
 mod laws;
+mod operators;
+mod scope;
 mod stack;
 mod state;
 
