@@ -2,14 +2,18 @@
 #![tactic(auto)]
 
 mod decl_state;
+mod decl_steps;
+mod field_steps;
 mod key_state;
 mod key_steps;
 mod laws;
+mod method_steps;
 mod test_state;
 mod test_steps;
 mod words;
 
 pub use decl_state::{DeclState, FieldState, Head, Message, MethodState, NamesState};
+pub use decl_steps::{decl_begun, decl_step};
 pub use key_state::{KeyMessage, KeyState};
 pub use key_steps::{key_begun, key_finished, key_is_whole, key_step};
 pub use laws::{
