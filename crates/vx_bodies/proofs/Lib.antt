@@ -4,3 +4,4 @@ mod Fresh
 mod Counts
 mod Finish
 mod Ends
+mod Scopes

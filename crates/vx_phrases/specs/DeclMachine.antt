@@ -33,9 +33,12 @@ use Rattle.vx_phrases.specs.declared.decl_state.DeclState.{DeclState}
 use Rattle.vx_phrases.specs.declared.decl_state.DeclState.TheVariants as st
 use Rattle.vx_phrases.specs.TestMachine.{test_begun, test_step, test_finished}
 
+abbrev pub with_name : List Bytes → Bytes → List Bytes
+with_name given x = given ++ x ∷ []
+
 -- names that commas separate
 abbrev pub names : NamesState → Token → Option NamesState
-names (n.Wanted given) (k.Word x) = Some (n.Given (given ++ x ∷ []))
+names (n.Wanted given) (k.Word x) = Some (n.Given (with_name given x))
 names (n.Given given) (k.Mark m.Comma) = Some (n.Wanted given)
 names state token = None
 

@@ -1,7 +1,8 @@
 -- The reader of keys, token by token.
-use Rattle.std.specs.Prelude.{◌+◌, nat_le, false, if◌then◌else◌, [], ◌∷◌, ◌++◌, length, Option, Some, None}
+use Rattle.std.specs.Prelude.{◌+◌, nat_le, false, if◌then◌else◌, [], ◌∷◌, ◌++◌, length, Option, Some, None, List}
 use Rattle.vx_names.specs.declared.operator.Operator.{Operator}
 use Rattle.vx_names.specs.declared.key.DeclKey.{DeclKey}
+use Rattle.vx_names.specs.declared.key.FieldKey.{FieldKey}
 use Rattle.vx_names.specs.declared.key.DeclKey.TheVariants as y
 use Rattle.vx_names.specs.Operator.{spelling}
 use Rattle.vx_syntax.specs.declared.token.Token.{Token}
@@ -49,6 +50,10 @@ abbrev pub field_at : Bytes → Token → Option KeyState
 field_at x (k.Word holder) = Some (st.FieldHolder (field_key x holder))
 field_at x token = None
 
+abbrev pub field_holder : FieldKey → Token → Option KeyState
+field_holder key (k.Mark m.Close) = Some (st.Whole (y.Field key))
+field_holder key token = None
+
 abbrev pub method : Token → Option KeyState
 method (k.Word x) = Some (st.MethodNamed x)
 method (k.Operator op) = Some (st.MethodSign op)
@@ -62,8 +67,11 @@ abbrev pub method_sign : Operator → Token → Option KeyState
 method_sign op (k.Mark m.Open) = Some (st.Specialiser (ms.Sign op))
 method_sign op token = None
 
+abbrev pub method_whole : Bytes → List Bytes → KeyState
+method_whole x specialisers = st.Whole (y.Method (method_key x specialisers))
+
 abbrev pub method_open : Bytes → Token → Option KeyState
-method_open x (k.Mark m.Close) = Some (st.Whole (y.Method (method_key x [])))
+method_open x (k.Mark m.Close) = Some (method_whole x [])
 method_open x (k.Mark m.At) = Some (st.At (ms.Named x []))
 method_open x token = None
 
@@ -77,9 +85,9 @@ at message token = None
 
 -- the key that is whole with one more specialiser, the last
 abbrev pub with_last : KeyMessage → Bytes → Option KeyState
-with_last (ms.Named x given) specialiser = Some (st.Whole (y.Method (method_key x (given ++ specialiser ∷ []))))
+with_last (ms.Named x given) specialiser = Some (method_whole x (given ++ specialiser ∷ []))
 with_last (ms.Sign op) specialiser = None
-with_last (ms.Half op first) specialiser = Some (st.Whole (y.Method (method_key (spelling op) (first ∷ specialiser ∷ []))))
+with_last (ms.Half op first) specialiser = Some (method_whole (spelling op) (first ∷ specialiser ∷ []))
 
 -- the message with one more specialiser, where still more may follow
 abbrev pub with_next : KeyMessage → Bytes → Option KeyMessage
@@ -109,7 +117,7 @@ key_step st.Field token = field token
 key_step (st.FieldNamed x) token = field_named x token
 key_step (st.FieldOpen x) token = field_open x token
 key_step (st.FieldAt x) token = field_at x token
-key_step (st.FieldHolder key) (k.Mark m.Close) = Some (st.Whole (y.Field key))
+key_step (st.FieldHolder key) token = field_holder key token
 key_step st.Method token = method token
 key_step (st.MethodNamed x) token = method_named x token
 key_step (st.MethodSign op) token = method_sign op token
@@ -117,7 +125,7 @@ key_step (st.MethodOpen x) token = method_open x token
 key_step (st.Specialiser message) token = specialiser message token
 key_step (st.At message) token = at message token
 key_step (st.Specialised message x) token = specialised message x token
-key_step state token = None
+key_step (st.Whole key) token = None
 
 -- the key that is read, where it may end there
 unfoldable pub key_finished : KeyState → Option DeclKey
