@@ -40,9 +40,10 @@ run_push [] t s next is = last (command_step s t) ∙ ap (λ u. command_step u t
     last (Some state) = refl
 run_push (u ∷ ts) t s next is =
     (elim (command_step s u) as (λ o. elim o [ None ↦ None | Some state ↦ run_from state ts ] ≡ Some next →
-        elim o [ None ↦ None | Some state ↦ run_from state (ts ++ t ∷ []) ] ≡ command_step next t) [
+    elim o [ None ↦ None | Some state ↦ run_from state (ts ++ t ∷ []) ] ≡ command_step next t) [
       | None ↦ λ is. absurd (cc is)
-      | Some state ↦ λ is. run_push ts t state next is ]) is
+      | Some state ↦ λ is. run_push ts t state next is
+    ]) is
 
 names_push : (done : List Placed) (p : Placed) → without_places (done ++ p ∷ []) ≡ without_places done ++ p.token ∷ []
 names_push [] p = refl
@@ -106,8 +107,8 @@ module _ (laws : Laws) where
       GoesOn (take (length done + 1) (without_places (done ++ p ∷ rest)))
   goes_next done rest p s next h is short =
       subst GoesOn (sym (take_next done rest p))
-          (goes laws (without_places done ++ p.token ∷ []) next (run_push (without_places done) p.token st.Start s h.led_to ∙ is)
-              (omega (arith, names_length done, length-append done (p ∷ rest), length-append (without_places done) (p.token ∷ []), short)))
+      (goes laws (without_places done ++ p.token ∷ []) next (run_push (without_places done) p.token st.Start s h.led_to ∙ is)
+      (omega (arith, names_length done, length-append done (p ∷ rest), length-append (without_places done) (p.token ∷ []), short)))
 
   levels_at : (done rest : List Placed) (p : Placed) → levels_after first_levels (take (length done + 1) (without_places (done ++ p ∷ rest))) ≡ counted (levels_after first_levels (without_places done)) p.token
   levels_at done rest p = ap (levels_after first_levels) (take_next done rest p) ∙ levels_push first_levels (without_places done) p.token
@@ -122,7 +123,8 @@ module _ (laws : Laws) where
   over_read : (len : ℕ) (done : List Placed) (s : State) (o : Option Command) → Halfway done s → command_finished s ≡ o → length done < 2 ^ 64 →
       AreRead done len (ended len o)
   over_read len done s (Some v) h is short = whole_means done s v h is
-  over_read len done s None h is short = inr (record {
+  over_read len done s None h is short = inr (
+    record {
       before = subst (λ n. IsFine (without_places done) n) (sym (names_length done))
           (subst (λ l. IsFine (without_places l) (length done)) (append-nil done) (fine done [] s h (subst (λ l. length l < 2 ^ 64) (sym (append-nil done)) short)));
       none = λ v command.
@@ -131,45 +133,51 @@ module _ (laws : Laws) where
           let it : found.0 ≡ s = cc in
           let bad : command_finished s ≡ Some v = subst (λ u. command_finished u ≡ Some v) it (at_end laws found.0 v found.2) in
           absurd (cc (is, bad));
-    }, refl)
+    },
+    refl,
+  )
 
   pub read_from : (len : ℕ) (rest done : List Placed) (s : State) → Halfway done s → length (done ++ rest) < 2 ^ 64 →
       AreRead (done ++ rest) len (reading len s (levels_after first_levels (without_places done)) rest)
   read_from len [] done s h short =
       subst (λ l. AreRead l len (ended len (command_finished s))) (sym (append-nil done))
-          (over_read len done s (command_finished s) h refl (subst (λ l. length l < 2 ^ 64) (append-nil done) short))
+      (over_read len done s (command_finished s) h refl (subst (λ l. length l < 2 ^ 64) (append-nil done) short))
   read_from len (p ∷ rest) done s h short = stepped (command_step s p.token) refl (λ next. read_from len rest (done ++ p ∷ []) next)
     where
       levels : List ℕ
       levels = counted (levels_after first_levels (without_places done)) p.token
+
       further : State → Type 0
       further next = Halfway (done ++ p ∷ []) next → length ((done ++ p ∷ []) ++ rest) < 2 ^ 64 →
           AreRead ((done ++ p ∷ []) ++ rest) len (reading len next (levels_after first_levels (without_places (done ++ p ∷ []))) rest)
+
       sized : (next : State) → command_step s p.token ≡ Some next → depth levels ≤ max_depth → (b : Bool) → is_large p.token ≡ b → further next →
           AreRead (done ++ p ∷ rest) len (if b then Err (f.NumberTooLarge p.place) else reading len next levels rest)
       sized next is low true large more = record {
-          at = at_token done rest p s h short;
-          here = goes_next done rest p s next h is short;
-          shallow = subst (λ l. depth l ≤ max_depth) (sym (levels_at done rest p)) low;
-          large = large;
-        }
+        at = at_token done rest p s h short;
+        here = goes_next done rest p s next h is short;
+        shallow = subst (λ l. depth l ≤ max_depth) (sym (levels_at done rest p)) low;
+        large = large;
+      }
       sized next is low false small more =
           subst (λ l. AreRead l len (reading len next levels rest)) (append_assoc done (p ∷ []) rest)
-              (subst (λ l. AreRead ((done ++ p ∷ []) ++ rest) len (reading len next l rest))
-                  (ap (levels_after first_levels) (names_push done p) ∙ levels_push first_levels (without_places done) p.token)
-                  (more (record {
-                      led_to = ap (run_from st.Start) (names_push done p) ∙ run_push (without_places done) p.token st.Start s h.led_to ∙ is;
-                      shallow = subst (λ l. IsShallow first_levels l) (sym (names_push done p)) (shallow_push first_levels (without_places done) p.token h.shallow low);
-                      small = subst AreSmall (sym (names_push done p)) (small_push (without_places done) p.token h.small small);
-                    }) (subst (λ l. length l < 2 ^ 64) (sym (append_assoc done (p ∷ []) rest)) short)))
+          (subst (λ l. AreRead ((done ++ p ∷ []) ++ rest) len (reading len next l rest))
+          (ap (levels_after first_levels) (names_push done p) ∙ levels_push first_levels (without_places done) p.token)
+          (more (record {
+            led_to = ap (run_from st.Start) (names_push done p) ∙ run_push (without_places done) p.token st.Start s h.led_to ∙ is;
+            shallow = subst (λ l. IsShallow first_levels l) (sym (names_push done p)) (shallow_push first_levels (without_places done) p.token h.shallow low);
+            small = subst AreSmall (sym (names_push done p)) (small_push (without_places done) p.token h.small small);
+          }) (subst (λ l. length l < 2 ^ 64) (sym (append_assoc done (p ∷ []) rest)) short)))
+
       deep : (next : State) → command_step s p.token ≡ Some next → (b : Bool) → nat_lt max_depth (depth levels) ≡ b → further next →
           AreRead (done ++ p ∷ rest) len (if b then Err (f.TooDeep p.place) else if is_large p.token then Err (f.NumberTooLarge p.place) else reading len next levels rest)
       deep next is true under more = record {
-          at = at_token done rest p s h short;
-          here = goes_next done rest p s next h is short;
-          deep = subst (λ l. max_depth < depth l) (sym (levels_at done rest p)) (ltb-true max_depth (depth levels) under);
-        }
+        at = at_token done rest p s h short;
+        here = goes_next done rest p s next h is short;
+        deep = subst (λ l. max_depth < depth l) (sym (levels_at done rest p)) (ltb-true max_depth (depth levels) under);
+      }
       deep next is false under more = sized next is (ltb-false max_depth (depth levels) under) (is_large p.token) refl more
+
       stepped : (o : Option State) → command_step s p.token ≡ o → ((next : State) → further next) →
           AreRead (done ++ p ∷ rest) len (elim o [
             | None ↦ Err (f.Syntax p.place)
@@ -179,9 +187,9 @@ module _ (laws : Laws) where
                 reading len next levels rest
           ])
       stepped None is more = inl (record {
-          at = at_token done rest p s h short;
-          here = subst IsStuck (sym (take_next done rest p)) (stuck laws (without_places done ++ p.token ∷ []) (run_push (without_places done) p.token st.Start s h.led_to ∙ is));
-        })
+        at = at_token done rest p s h short;
+        here = subst IsStuck (sym (take_next done rest p)) (stuck laws (without_places done ++ p.token ∷ []) (run_push (without_places done) p.token st.Start s h.led_to ∙ is));
+      })
       stepped (Some next) is more = deep next is (nat_lt max_depth (depth levels)) refl (more next)
 
   pub answered : (bytes : List ℕ) → length bytes < 2 ^ 64 → Reads bytes (answer bytes)
@@ -199,14 +207,17 @@ module _ (laws : Laws) where
       further : State → Type 0
       further next = run_from next (without_places done) ≡ Some s →
           reading len next (counted levels p.token) (done ++ rest) ≡ reading len s (levels_after (counted levels p.token) (without_places done)) rest
+
       unsized : (b : Bool) (next : State) → b ≡ false → reading len next (counted levels p.token) (done ++ rest) ≡
           (if b then Err (f.NumberTooLarge p.place) else reading len next (counted levels p.token) (done ++ rest))
       unsized true next is = absurd (cc is)
       unsized false next is = refl
+
       undeep : (b : Bool) (next : State) → b ≡ false → reading len next (counted levels p.token) (done ++ rest) ≡
           (if b then Err (f.TooDeep p.place) else if is_large p.token then Err (f.NumberTooLarge p.place) else reading len next (counted levels p.token) (done ++ rest))
       undeep true next is = absurd (cc is)
       undeep false next is = unsized (is_large p.token) next small.0
+
       stepped : (o : Option State) → elim o [ None ↦ None | Some state ↦ run_from state (without_places done) ] ≡ Some s → ((next : State) → further next) →
           elim o [
             | None ↦ Err (f.Syntax p.place)
@@ -248,17 +259,21 @@ module _ (laws : Laws) where
       let p : Placed = record { token = at.token; place = place } in
       let a = around placed at.count p at.is in
       let front : take at.count (without_places placed) ≡ without_places a.done =
-          subst (λ l. take at.count (without_places l) ≡ without_places a.done) (sym a.split)
-              (subst (λ n. take n (without_places (a.done ++ p ∷ a.rest)) ≡ without_places a.done) a.before (take_names a.done (p ∷ a.rest))) in
+      subst (λ l. take at.count (without_places l) ≡ without_places a.done) (sym a.split)
+      (subst (λ n. take n (without_places (a.done ++ p ∷ a.rest)) ≡ without_places a.done) a.before (take_names a.done (p ∷ a.rest))) in
       let on = subst GoesOn front at.before.goes_on in
       let found = led laws (without_places a.done) on.more on.command on.means in
       let half : Halfway a.done found.0 = record {
-          led_to = found.1;
-          shallow = subst (λ l. IsShallow first_levels l) front at.before.shallow;
-          small = subst AreSmall front at.before.small;
-        } in
+        led_to = found.1;
+        shallow = subst (λ l. IsShallow first_levels l) front at.before.shallow;
+        small = subst AreSmall front at.before.small;
+      } in
       record {
-        done = a.done; rest = a.rest; split = a.split; state = found.0; halfway = half;
+        done = a.done;
+        rest = a.rest;
+        split = a.split;
+        state = found.0;
+        halfway = half;
         upto = subst (λ l. take (at.count + 1) (without_places l) ≡ without_places a.done ++ at.token ∷ []) (sym a.split)
             (subst (λ n. take (n + 1) (without_places (a.done ++ p ∷ a.rest)) ≡ without_places a.done ++ at.token ∷ []) a.before (take_next a.done a.rest p));
         comes = ap (reading len st.Start first_levels) a.split ∙ passes len a.done (p ∷ a.rest) st.Start found.0 first_levels half.led_to half.shallow half.small;
@@ -268,25 +283,25 @@ module _ (laws : Laws) where
       ((next : State) → o ≡ Some next → ⊥) → reading len s levels (p ∷ rest) ≡ Err (f.Syntax p.place)
   none_stepped s p len levels rest None is none =
       ap (λ o. elim o [
-          | None ↦ Err (f.Syntax p.place)
-          | Some next ↦
-              if nat_lt max_depth (depth (counted levels p.token)) then Err (f.TooDeep p.place) else
-              if is_large p.token then Err (f.NumberTooLarge p.place) else
-              reading len next (counted levels p.token) rest
-        ]) is
+        | None ↦ Err (f.Syntax p.place)
+        | Some next ↦
+            if nat_lt max_depth (depth (counted levels p.token)) then Err (f.TooDeep p.place) else
+            if is_large p.token then Err (f.NumberTooLarge p.place) else
+            reading len next (counted levels p.token) rest
+      ]) is
   none_stepped s p len levels rest (Some next) is none = absurd (none next refl)
 
   some_stepped : (s next : State) (p : Placed) (len : ℕ) (levels : List ℕ) (rest : List Placed) → command_step s p.token ≡ Some next →
       reading len s levels (p ∷ rest) ≡ (if nat_lt max_depth (depth (counted levels p.token)) then Err (f.TooDeep p.place) else
-          if is_large p.token then Err (f.NumberTooLarge p.place) else reading len next (counted levels p.token) rest)
+      if is_large p.token then Err (f.NumberTooLarge p.place) else reading len next (counted levels p.token) rest)
   some_stepped s next p len levels rest is =
       ap (λ o. elim o [
-          | None ↦ Err (f.Syntax p.place)
-          | Some next ↦
-              if nat_lt max_depth (depth (counted levels p.token)) then Err (f.TooDeep p.place) else
-              if is_large p.token then Err (f.NumberTooLarge p.place) else
-              reading len next (counted levels p.token) rest
-        ]) is
+        | None ↦ Err (f.Syntax p.place)
+        | Some next ↦
+            if nat_lt max_depth (depth (counted levels p.token)) then Err (f.TooDeep p.place) else
+            if is_large p.token then Err (f.NumberTooLarge p.place) else
+            reading len next (counted levels p.token) rest
+      ]) is
 
   -- a step that some command goes on with
   next_of : (done : List Placed) (s : State) (token : Token) → Halfway done s → GoesOn (without_places done ++ token ∷ []) → (next : State) × (command_step s token ≡ Some next)
@@ -306,24 +321,24 @@ module _ (laws : Laws) where
   alike placed len (Ok v) short h =
       let found = led laws (without_places placed) [] v (subst (λ l. IsCommand l v) (sym (append-nil (without_places placed))) h.command) in
       ap (reading len st.Start first_levels) (sym (append-nil placed)) ∙ passes len placed [] st.Start found.0 first_levels found.1 h.shallow h.small
-          ∙ ap (ended len) (at_end laws found.0 v found.2)
+      ∙ ap (ended len) (at_end laws found.0 v found.2)
   alike placed len (Err (f.Syntax place)) short (inl h) =
       let c = come len placed place h.at in
       c.comes ∙ none_stepped c.state (record { token = h.at.token; place = place }) len (levels_after first_levels (without_places c.done)) c.rest
-          (command_step c.state h.at.token) refl (λ next is.
-              let on = goes_next c.done c.rest (record { token = h.at.token; place = place }) c.state next c.halfway is (subst (λ l. length l < 2 ^ 64) c.split short) in
-              let upto = subst GoesOn (take_next c.done c.rest (record { token = h.at.token; place = place }) ∙ sym c.upto) on in
-              h.here upto.more upto.command upto.means)
+      (command_step c.state h.at.token) refl (λ next is.
+      let on = goes_next c.done c.rest (record { token = h.at.token; place = place }) c.state next c.halfway is (subst (λ l. length l < 2 ^ 64) c.split short) in
+      let upto = subst GoesOn (take_next c.done c.rest (record { token = h.at.token; place = place }) ∙ sym c.upto) on in
+      h.here upto.more upto.command upto.means)
   alike placed len (Err (f.Syntax place)) short (inr h) =
       let on = subst GoesOn (take_all (without_places placed)) h.0.before.goes_on in
       let found = led laws (without_places placed) on.more on.command on.means in
       let half : Halfway placed found.0 = record {
-          led_to = found.1;
-          shallow = subst (λ l. IsShallow first_levels l) (take_all (without_places placed)) h.0.before.shallow;
-          small = subst AreSmall (take_all (without_places placed)) h.0.before.small;
-        } in
+        led_to = found.1;
+        shallow = subst (λ l. IsShallow first_levels l) (take_all (without_places placed)) h.0.before.shallow;
+        small = subst AreSmall (take_all (without_places placed)) h.0.before.small;
+      } in
       ap (reading len st.Start first_levels) (sym (append-nil placed)) ∙ passes len placed [] st.Start found.0 first_levels half.led_to half.shallow half.small
-          ∙ wanting found.0 half (command_finished found.0) refl
+      ∙ wanting found.0 half (command_finished found.0) refl
     where
       wanting : (s : State) → Halfway placed s → (o : Option Command) → command_finished s ≡ o → ended len o ≡ Err (f.Syntax place)
       wanting s half (Some v) is = absurd (h.0.none v (whole_means placed s v half is).command)
@@ -334,17 +349,17 @@ module _ (laws : Laws) where
       let next = next_of c.done c.state h.at.token c.halfway (subst GoesOn c.upto h.here) in
       let levels = levels_after first_levels (without_places c.done) in
       c.comes ∙ some_stepped c.state next.0 p len levels c.rest next.1
-          ∙ if_yes _ _ _ (lt-ltb max_depth (depth (counted levels p.token))
-              (subst (λ l. max_depth < depth l) (ap (levels_after first_levels) c.upto ∙ levels_push first_levels (without_places c.done) p.token) h.deep))
+      ∙ if_yes _ _ _ (lt-ltb max_depth (depth (counted levels p.token))
+      (subst (λ l. max_depth < depth l) (ap (levels_after first_levels) c.upto ∙ levels_push first_levels (without_places c.done) p.token) h.deep))
   alike placed len (Err (f.NumberTooLarge place)) short h =
       let c = come len placed place h.at in
       let p : Placed = record { token = h.at.token; place = place } in
       let next = next_of c.done c.state h.at.token c.halfway (subst GoesOn c.upto h.here) in
       let levels = levels_after first_levels (without_places c.done) in
       c.comes ∙ some_stepped c.state next.0 p len levels c.rest next.1
-          ∙ if_no _ _ _ (le-ltb max_depth (depth (counted levels p.token))
-              (subst (λ l. depth l ≤ max_depth) (ap (levels_after first_levels) c.upto ∙ levels_push first_levels (without_places c.done) p.token) h.shallow))
-          ∙ if_yes _ _ _ h.large
+      ∙ if_no _ _ _ (le-ltb max_depth (depth (counted levels p.token))
+      (subst (λ l. depth l ≤ max_depth) (ap (levels_after first_levels) c.upto ∙ levels_push first_levels (without_places c.done) p.token) h.shallow))
+      ∙ if_yes _ _ _ h.large
   alike placed len (Err f.OutOfMemory) short h = absurd h
 
   pub one_reading_of : (bytes : List ℕ) (a b : Result Command ReadFault) → length bytes < 2 ^ 64 → Reads bytes a → Reads bytes b → a ≡ b

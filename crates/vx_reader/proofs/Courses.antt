@@ -60,14 +60,16 @@ module _ (laws : Laws) where
   complete_run (t ∷ ts) more s v h =
       (elim (command_step s t) as (λ next. CommandMoves next (ts ++ more) v → CommandMoves (on next ts) more v) [
         | None ↦ λ h. absurd h
-        | Some next ↦ λ h. complete_run ts more next v h ]) (complete laws s t (ts ++ more) v h)
+        | Some next ↦ λ h. complete_run ts more next v h
+      ]) (complete laws s t (ts ++ more) v h)
 
   pub sound_run : (ts more : List Token) (s : State) (v : Command) → CommandMoves (run_from s ts) more v → CommandRemains s (ts ++ more) v
   sound_run [] more s v h = h
   sound_run (t ∷ ts) more s v h =
       sound laws s t (ts ++ more) v ((elim (command_step s t) as (λ next. CommandMoves (on next ts) more v → CommandMoves next (ts ++ more) v) [
         | None ↦ λ h. absurd h
-        | Some next ↦ λ h. sound_run ts more next v h ]) h)
+        | Some next ↦ λ h. sound_run ts more next v h
+      ]) h)
 
   from_start : {ts : List Token} {v : Command} → CommandRemains st.Start ts v → IsCommand ts v
   from_start (r.wants_command is) = is
@@ -81,7 +83,8 @@ module _ (laws : Laws) where
   led ts more v is =
       (elim (run_from st.Start ts) as (λ o. CommandMoves o more v → (s : State) × (o ≡ Some s) × CommandRemains s more v) [
         | None ↦ λ h. absurd h
-        | Some s ↦ λ h. (s, refl, h) ]) (complete_run ts more st.Start v (r.wants_command is))
+        | Some s ↦ λ h. (s, refl, h)
+      ]) (complete_run ts more st.Start v (r.wants_command is))
 
   pub stuck : (ts : List Token) → run_from st.Start ts ≡ None → IsStuck ts
   stuck ts none more v is = subst (λ o. CommandMoves o more v) none (complete_run ts more st.Start v (r.wants_command is))
@@ -89,14 +92,14 @@ module _ (laws : Laws) where
   changing_names : (before : List Change) (x : Bytes) (n : ℕ) → AtMost n (changing before x)
   changing_names before x n =
       one_of n (bytes_eq x add_word) _ _ (omega (arith, none_begun)) (one_of n (bytes_eq x put_word) _ _ (omega (arith, none_begun))
-          (one_of n (bytes_eq x drop_word) (Some (st.Dropping before key_begun)) None (omega arith) tt))
+      (one_of n (bytes_eq x drop_word) (Some (st.Dropping before key_begun)) None (omega arith) tt))
 
   asking_names : (x : Bytes) (n : ℕ) → AtMost n (asking x)
   asking_names x n =
       one_of n (bytes_eq x run_word) (Some st.Run) _ (omega arith) (one_of n (bytes_eq x mean_word) (Some st.Mean) _ (omega arith)
-          (one_of n (bytes_eq x image_word) (Some (st.Over c.Image)) _ (omega arith) (one_of n (bytes_eq x why_word) (Some (st.Over c.Why)) _ (omega arith)
-              (one_of n (bytes_eq x list_word) (Some (st.Over c.List)) _ (omega arith)
-                  (one_of n (bytes_eq x journal_word) (Some (st.Over c.Journal)) None (omega arith) tt)))))
+      (one_of n (bytes_eq x image_word) (Some (st.Over c.Image)) _ (omega arith) (one_of n (bytes_eq x why_word) (Some (st.Over c.Why)) _ (omega arith)
+      (one_of n (bytes_eq x list_word) (Some (st.Over c.List)) _ (omega arith)
+      (one_of n (bytes_eq x journal_word) (Some (st.Over c.Journal)) None (omega arith) tt)))))
 
   started_names : (t : Token) (n : ℕ) → AtMost n (started t)
   started_names (k.Word x) n = one_of n (is_among changing_words x) _ _ (changing_names [] x n) (asking_names x n)
@@ -158,7 +161,8 @@ module _ (laws : Laws) where
   run_grows (t ∷ ts) s =
       (elim (command_step s t) as (λ next. AtMost (command_names s + 1) next → AtMost (command_names s + length (t ∷ ts)) (on next ts)) [
         | None ↦ λ h. tt
-        | Some next ↦ λ h. more_names (command_names next + length ts) (command_names s + length (t ∷ ts)) (run_from next ts) (omega (arith, h)) (run_grows ts next) ]) (grows s t)
+        | Some next ↦ λ h. more_names (command_names next + length ts) (command_names s + length (t ∷ ts)) (run_from next ts) (omega (arith, h)) (run_grows ts next)
+      ]) (grows s t)
 
   finish : (s : State) → command_names s < 2 ^ 64 → (more : List Token) × (v : Command) × AllByRecursion IsToken more × CommandRemains s more v
   finish st.Start few = ([], c.Blank, tt, r.wants_command blank)

@@ -7,3 +7,4 @@ mod Rows
 mod Steps
 mod Courses
 mod Answered
+mod Depths

@@ -179,19 +179,23 @@ module _ (laws : Laws) where
   -- a declaration behind another
   another : (put : Bool) (before : List Change) {t : Token} {ts us : List Token} {decl : Decl} {v : Command} → IsDecl (t ∷ ts) us decl →
       AfterDecl put (before ++ declared put decl ∷ []) us v → (opens t ≡ true) × CommandMoves (after_decl put before t) ts v
-  another put before {t} {ts} {us} {decl} {v} one rest =
-      ((declares one).opens_it, subst (λ o. CommandMoves o ts v) (sym ((declares one).steps put before)) (elim (laws.decl_complete decl_begun t ts us decl (of_decl one)) [
-        | inl moves ↦ decl_moves put before (decl_step decl_begun t) ts decl moves rest
-        | inr whole ↦ absurd (not_begun decl whole.1)
-      ]))
+  another put before {t} {ts} {us} {decl} {v} one rest = (
+    (declares one).opens_it,
+    subst (λ o. CommandMoves o ts v) (sym ((declares one).steps put before)) (elim (laws.decl_complete decl_begun t ts us decl (of_decl one)) [
+      | inl moves ↦ decl_moves put before (decl_step decl_begun t) ts decl moves rest
+      | inr whole ↦ absurd (not_begun decl whole.1)
+    ]),
+  )
 
   another_key : (before : List Change) {t : Token} {ts us : List Token} {key : DeclKey} {v : Command} → IsKey (t ∷ ts) us key →
       AfterKey (before ++ Drop key ∷ []) us v → (opens t ≡ true) × CommandMoves (after_key before t) ts v
-  another_key before {t} {ts} {us} {key} {v} one rest =
-      ((names_key one).opens_it, subst (λ o. CommandMoves o ts v) (sym ((names_key one).steps before)) (elim (laws.key_complete key_begun t ts us key (of_key one)) [
-        | inl moves ↦ key_moves before (key_step key_begun t) ts key moves rest
-        | inr whole ↦ absurd (no_key_begun key whole.1)
-      ]))
+  another_key before {t} {ts} {us} {key} {v} one rest = (
+    (names_key one).opens_it,
+    subst (λ o. CommandMoves o ts v) (sym ((names_key one).steps before)) (elim (laws.key_complete key_begun t ts us key (of_key one)) [
+      | inl moves ↦ key_moves before (key_step key_begun t) ts key moves rest
+      | inr whole ↦ absurd (no_key_begun key whole.1)
+    ]),
+  )
 
   after_decl_moves : {put : Bool} {before : List Change} {t : Token} {ts : List Token} {v : Command} → AfterDecl put before (t ∷ ts) v →
       (opens t ≡ true) × CommandMoves (after_decl put before t) ts v
@@ -212,9 +216,9 @@ module _ (laws : Laws) where
   -- where a declaration is whole, a token that opens another is none of it
   apart : (s : DeclState) (decl : Decl) (t : Token) → opens t ≡ true → decl_finished s ≡ Some decl → decl_step s t ≡ None
   apart s decl t opening whole = elim (begun_by t opening) [
-      | inl word ↦ subst (λ u. decl_step s u ≡ None) (sym word.1) (laws.decl_words s decl word.0 whole (no_join word.0 word.2))
-      | inr next ↦ laws.decl_opens s decl t next.0 whole next.1
-    ]
+    | inl word ↦ subst (λ u. decl_step s u ≡ None) (sym word.1) (laws.decl_words s decl word.0 whole (no_join word.0 word.2))
+    | inr next ↦ laws.decl_opens s decl t next.0 whole next.1
+  ]
 
   -- a declaration goes on, or is whole before the token
   goes_on : (put : Bool) (before : List Change) (s : DeclState) (decl : Decl) (t : Token) (ts us : List Token) (v : Command) (opening : Bool) (whole : Option Decl) →
@@ -254,7 +258,7 @@ module _ (laws : Laws) where
         | inr whole ↦
             let next = after_decl_moves (subst (λ l. AfterDecl put (before ++ declared put decl ∷ []) l v) whole.0 rest) in
             subst (λ o. CommandMoves (declaring (opens t) put before s o t) ts v) (sym whole.1)
-                (subst (λ b. CommandMoves (declaring b put before s (Some decl) t) ts v) (sym next.0) next.1)
+            (subst (λ b. CommandMoves (declaring b put before s (Some decl) t) ts v) (sym next.0) next.1)
       ]
   complete (st.Dropping before s) t ts v (r.in_key {us = us} {key} remains rest) =
       elim (laws.key_complete s t ts us key remains) [
@@ -262,7 +266,7 @@ module _ (laws : Laws) where
         | inr whole ↦
             let next = after_key_moves (subst (λ l. AfterKey (before ++ Drop key ∷ []) l v) whole.0 rest) in
             subst (λ o. CommandMoves (dropping (opens t) before s o t) ts v) (sym whole.1)
-                (subst (λ b. CommandMoves (dropping b before s (Some key) t) ts v) (sym next.0) next.1)
+            (subst (λ b. CommandMoves (dropping b before s (Some key) t) ts v) (sym next.0) next.1)
       ]
   complete (st.Over over) t ts v remains = elim remains [ ]
 
@@ -303,12 +307,14 @@ module _ (laws : Laws) where
           let all = dropping_all before ts v moves in
           subst (λ y. AfterChange before (k.Word y ∷ ts) v) (sym (same x drop_word is)) (after_one (h.drops all.all) all.rest)
       third false is moves = absurd moves
+
       second : (b : Bool) → bytes_eq x put_word ≡ b → CommandMoves (if b then Some (st.Declaring true before decl_begun) else
           if bytes_eq x drop_word then Some (st.Dropping before key_begun) else None) ts v → AfterChange before (k.Word x ∷ ts) v
       second true is moves =
           let all = declaring_all true before ts v moves in
           subst (λ y. AfterChange before (k.Word y ∷ ts) v) (sym (same x put_word is)) (after_one (h.puts all.all) all.rest)
       second false is moves = third (bytes_eq x drop_word) refl moves
+
       first : (b : Bool) → bytes_eq x add_word ≡ b → CommandMoves (if b then Some (st.Declaring false before decl_begun) else
           if bytes_eq x put_word then Some (st.Declaring true before decl_begun) else
           if bytes_eq x drop_word then Some (st.Dropping before key_begun) else None) ts v → AfterChange before (k.Word x ∷ ts) v

@@ -5,3 +5,4 @@ pub mod Commands
 pub mod CommandMachine
 pub mod CommandRemains
 pub mod Reads
+pub mod OpenLevels

@@ -4,6 +4,7 @@
 mod bytes;
 mod command;
 mod front;
+mod levels;
 mod number;
 mod sign;
 mod spelling;
