@@ -7,6 +7,8 @@ mod expr;
 mod key;
 mod print;
 mod test;
+#[cfg(test)]
+mod tests;
 mod token;
 
 pub use count::{height, locals, size};
