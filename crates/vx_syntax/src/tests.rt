@@ -207,11 +207,35 @@ fn not(alloc: Global, a: Built<Test>) -> Built<Test> {
     Ok(Test::Not(boxed(alloc, a)?))
 }
 
-fn prints(rt: &impl Abort, alloc: Global, decl: Built<Decl>, want: &[u8]) -> Result<(), Fail> {
+fn printed(alloc: Global, decl: Built<Decl>) -> Result<Vec<u8>, Fail> {
     let decl = decl?;
     let text = print_decl(alloc, &decl)?;
     drop(decl);
+    Ok(text)
+}
+
+fn prints(rt: &impl Abort, alloc: Global, decl: Built<Decl>, want: &[u8]) -> Result<(), Fail> {
+    let text = printed(alloc, decl)?;
     assert_eq!(rt; text.as_slice(), want);
+    Ok(())
+}
+
+// The text of a predicate with this test.
+fn asks(rt: &impl Abort, alloc: Global, test: Built<Test>, want: &[u8]) -> Result<(), Fail> {
+    let text = printed(alloc, predicate(alloc, b"p", &[b"a", b"b"], test))?;
+    let mut whole = b"predicate p isa a, b when ".to_vec(alloc)?;
+    whole.extend_from_slice(want)?;
+    assert_eq!(rt; text.as_slice(), whole.as_slice());
+    Ok(())
+}
+
+// The text of a method that runs this expression alone.
+fn runs(rt: &impl Abort, alloc: Global, expr: Built<Expr>, want: &[u8]) -> Result<(), Fail> {
+    let text = printed(alloc, doing(alloc, expr))?;
+    let mut whole = b"method m() { ".to_vec(alloc)?;
+    whole.extend_from_slice(want)?;
+    whole.extend_from_slice(b" }")?;
+    assert_eq!(rt; text.as_slice(), whole.as_slice());
     Ok(())
 }
 
@@ -221,12 +245,8 @@ fn objects(rt: HostRuntime) -> Result<(), Fail> {
     prints(&rt, alloc, object(alloc, b"any", &[]), b"object any")?;
     prints(&rt, alloc, object(alloc, b"a", &[b"any"]), b"object a")?;
     prints(&rt, alloc, object(alloc, b"a", &[b"b"]), b"object a isa b")?;
-    prints(
-        &rt,
-        alloc,
-        object(alloc, b"a", &[b"any", b"c"]),
-        b"object a isa any, c",
-    )
+    let decl = object(alloc, b"a", &[b"any", b"c"]);
+    prints(&rt, alloc, decl, b"object a isa any, c")
 }
 
 fn less(alloc: Global) -> Built<Test> {
@@ -237,109 +257,62 @@ fn equal(alloc: Global) -> Built<Test> {
     compare(alloc, Compare::Equal, -2)
 }
 
-fn asks(rt: &impl Abort, alloc: Global, test: Built<Test>, want: &[u8]) -> Result<(), Fail> {
-    prints(rt, alloc, predicate(alloc, b"p", &[b"a", b"b"], test), want)
-}
-
 #[test]
 fn predicates(rt: HostRuntime) -> Result<(), Fail> {
     let alloc = rt.alloc();
-    let at_most = compare(alloc, Compare::AtMost, 0);
-    let at_least = compare(alloc, Compare::AtLeast, 3);
-    let more = compare(alloc, Compare::More, 4);
-    asks(&rt, alloc, less(alloc), b"predicate p isa a, b when n < 1")?;
-    asks(&rt, alloc, at_most, b"predicate p isa a, b when n <= 0")?;
-    asks(&rt, alloc, more, b"predicate p isa a, b when n > 4")?;
-    asks(&rt, alloc, at_least, b"predicate p isa a, b when n >= 3")?;
-    asks(
-        &rt,
-        alloc,
-        equal(alloc),
-        b"predicate p isa a, b when n = -2",
-    )?;
-    prints(
-        &rt,
-        alloc,
-        predicate(alloc, b"p", &[b"any"], less(alloc)),
-        b"predicate p isa any when n < 1",
-    )
+    asks(&rt, alloc, less(alloc), b"n < 1")?;
+    asks(&rt, alloc, equal(alloc), b"n = -2")?;
+    asks(&rt, alloc, compare(alloc, Compare::AtMost, 0), b"n <= 0")?;
+    asks(&rt, alloc, compare(alloc, Compare::More, 4), b"n > 4")?;
+    asks(&rt, alloc, compare(alloc, Compare::AtLeast, 3), b"n >= 3")?;
+    let decl = predicate(alloc, b"p", &[b"any"], less(alloc));
+    prints(&rt, alloc, decl, b"predicate p isa any when n < 1")
 }
 
 #[test]
 fn joined_tests(rt: HostRuntime) -> Result<(), Fail> {
     let alloc = rt.alloc();
-    let part = both(alloc, less(alloc), not(alloc, equal(alloc)));
-    let twice = not(alloc, not(alloc, equal(alloc)));
-    let whole = not(alloc, both(alloc, less(alloc), equal(alloc)));
-    let inner = either(
-        alloc,
-        both(alloc, less(alloc), less(alloc)),
-        not(alloc, not(alloc, less(alloc))),
-    );
-    asks(
-        &rt,
-        alloc,
-        part,
-        b"predicate p isa a, b when (n < 1 and (not n = -2))",
-    )?;
-    asks(
-        &rt,
-        alloc,
-        twice,
-        b"predicate p isa a, b when not not n = -2",
-    )?;
-    asks(
-        &rt,
-        alloc,
-        whole,
-        b"predicate p isa a, b when not (n < 1 and n = -2)",
-    )?;
-    asks(
-        &rt,
-        alloc,
-        inner,
-        b"predicate p isa a, b when ((n < 1 and n < 1) or (not not n < 1))",
-    )
+    let test = both(alloc, less(alloc), not(alloc, equal(alloc)));
+    asks(&rt, alloc, test, b"(n < 1 and (not n = -2))")?;
+    let test = not(alloc, not(alloc, equal(alloc)));
+    asks(&rt, alloc, test, b"not not n = -2")?;
+    let test = not(alloc, both(alloc, less(alloc), equal(alloc)));
+    asks(&rt, alloc, test, b"not (n < 1 and n = -2)")?;
+    let twice = not(alloc, not(alloc, less(alloc)));
+    let test = either(alloc, both(alloc, less(alloc), less(alloc)), twice);
+    asks(&rt, alloc, test, b"((n < 1 and n < 1) or (not not n < 1))")
+}
+
+fn begins(
+    rt: &impl Abort,
+    alloc: Global,
+    start: Built<Start>,
+    changeable: bool,
+    want: &[u8],
+) -> Result<(), Fail> {
+    prints(rt, alloc, slot(alloc, start, changeable), want)
 }
 
 #[test]
 fn fields(rt: HostRuntime) -> Result<(), Fail> {
     let alloc = rt.alloc();
-    prints(
+    begins(&rt, alloc, Ok(Start::Nil), false, b"field f(@a)")?;
+    begins(&rt, alloc, Ok(Start::Nil), true, b"var field f(@a)")?;
+    begins(
         &rt,
         alloc,
-        slot(alloc, Ok(Start::Nil), false),
-        b"field f(@a)",
-    )?;
-    prints(
-        &rt,
-        alloc,
-        slot(alloc, Ok(Start::Nil), true),
-        b"var field f(@a)",
-    )?;
-    prints(
-        &rt,
-        alloc,
-        slot(alloc, Ok(Start::True), true),
+        Ok(Start::True),
+        true,
         b"var field f(@a) := true",
     )?;
-    prints(
-        &rt,
-        alloc,
-        slot(alloc, Ok(Start::False), false),
-        b"field f(@a) := false",
-    )?;
-    prints(
-        &rt,
-        alloc,
-        slot(alloc, Ok(Start::Int(-5)), false),
-        b"field f(@a) := -5",
-    )?;
+    begins(&rt, alloc, Ok(Start::False), false, b"field f(@a) := false")?;
+    begins(&rt, alloc, Ok(Start::Int(-5)), false, b"field f(@a) := -5")?;
     let start = Start::Text(bytes(alloc, b"a \"b\" \\")?);
-    prints(
+    begins(
         &rt,
         alloc,
-        slot(alloc, Ok(start), false),
+        Ok(start),
+        false,
         br#"field f(@a) := "a \"b\" \\""#,
     )
 }
@@ -347,145 +320,70 @@ fn fields(rt: HostRuntime) -> Result<(), Fail> {
 #[test]
 fn methods(rt: HostRuntime) -> Result<(), Fail> {
     let alloc = rt.alloc();
-    prints(
-        &rt,
-        alloc,
-        method(alloc, b"m", &[], none(alloc)),
-        b"method m() { }",
-    )?;
-    let all = &[
-        (b"x".as_slice(), b"a".as_slice()),
-        (b"y", b"any"),
-        (b"", b"any"),
-        (b"", b"b"),
-    ];
-    let two_stmts = with(
+    let decl = method(alloc, b"m", &[], none(alloc));
+    prints(&rt, alloc, decl, b"method m() { }")?;
+    let all: [(&[u8], &[u8]); 4] = [(b"x", b"a"), (b"y", b"any"), (b"", b"any"), (b"", b"b")];
+    let stmts = with(
         with(none(alloc), run(var(alloc, b"x"))),
         back(var(alloc, b"y")),
     );
-    prints(
-        &rt,
-        alloc,
-        method(alloc, b"m", all, two_stmts),
-        b"method m(x@a, y, @any, @b) { x; ^ y }",
-    )?;
-    let all = &[(b"x".as_slice(), b"a".as_slice()), (b"y", b"a")];
-    let sum = with(
+    let decl = method(alloc, b"m", &all, stmts);
+    prints(&rt, alloc, decl, b"method m(x@a, y, @any, @b) { x; ^ y }")?;
+    let stmts = with(
         none(alloc),
         run(two(alloc, b"-", var(alloc, b"x"), var(alloc, b"y"))),
     );
-    prints(
-        &rt,
-        alloc,
-        method(alloc, b"+", all, sum),
-        b"method +(x@a, y@a) { (x - y) }",
-    )
+    let decl = method(alloc, b"+", &[(b"x", b"a"), (b"y", b"a")], stmts);
+    prints(&rt, alloc, decl, b"method +(x@a, y@a) { (x - y) }")
 }
 
 #[test]
 fn statements(rt: HostRuntime) -> Result<(), Fail> {
     let alloc = rt.alloc();
-    let stmts = with(
-        with(none(alloc), bound(alloc, b"x", int(1))),
-        variable(alloc, b"y", int(-2)),
-    );
-    let stmts = with(
-        with(stmts, set(alloc, b"y", var(alloc, b"x"))),
-        back(int(0)),
-    );
-    prints(
-        &rt,
-        alloc,
-        method(alloc, b"m", &[], stmts),
-        b"method m() { let x := 1; let var y := -2; y := x; ^ 0 }",
-    )
+    let stmts = with(none(alloc), bound(alloc, b"x", int(1)));
+    let stmts = with(stmts, variable(alloc, b"y", int(-2)));
+    let stmts = with(stmts, set(alloc, b"y", var(alloc, b"x")));
+    let decl = method(alloc, b"m", &[], with(stmts, back(int(0))));
+    let want = b"method m() { let x := 1; let var y := -2; y := x; ^ 0 }";
+    prints(&rt, alloc, decl, want)
 }
 
 #[test]
 fn sends(rt: HostRuntime) -> Result<(), Fail> {
     let alloc = rt.alloc();
-    prints(
-        &rt,
-        alloc,
-        doing(alloc, send(alloc, b"f", none(alloc))),
-        b"method m() { f() }",
-    )?;
-    prints(
-        &rt,
-        alloc,
-        doing(alloc, two(alloc, b"f", int(1), int(2))),
-        b"method m() { f(1, 2) }",
-    )?;
-    prints(
-        &rt,
-        alloc,
-        doing(alloc, two(alloc, b"_f", int(1), int(2))),
-        b"method m() { _f(1, 2) }",
-    )?;
-    let inner = two(alloc, b"++", two(alloc, b"<=", int(1), int(-2)), int(3));
-    prints(
-        &rt,
-        alloc,
-        doing(alloc, inner),
-        b"method m() { ((1 <= -2) ++ 3) }",
-    )?;
-    let one = send(alloc, b"-", with(none(alloc), int(1)));
-    prints(&rt, alloc, doing(alloc, one), b"method m() { -(1) }")?;
-    let three = send(
-        alloc,
-        b"-",
-        with(with(with(none(alloc), int(1)), int(2)), int(3)),
-    );
-    prints(
-        &rt,
-        alloc,
-        doing(alloc, three),
-        b"method m() { -(1, 2, 3) }",
-    )
+    runs(&rt, alloc, send(alloc, b"f", none(alloc)), b"f()")?;
+    runs(&rt, alloc, two(alloc, b"f", int(1), int(2)), b"f(1, 2)")?;
+    runs(&rt, alloc, two(alloc, b"_f", int(1), int(2)), b"_f(1, 2)")?;
+    let expr = two(alloc, b"++", two(alloc, b"<=", int(1), int(-2)), int(3));
+    runs(&rt, alloc, expr, b"((1 <= -2) ++ 3)")?;
+    let expr = send(alloc, b"-", with(none(alloc), int(1)));
+    runs(&rt, alloc, expr, b"-(1)")?;
+    let arguments = with(with(with(none(alloc), int(1)), int(2)), int(3));
+    runs(&rt, alloc, send(alloc, b"-", arguments), b"-(1, 2, 3)")
 }
 
 #[test]
-fn expressions(rt: HostRuntime) -> Result<(), Fail> {
+fn closures(rt: HostRuntime) -> Result<(), Fail> {
     let alloc = rt.alloc();
-    prints(
-        &rt,
-        alloc,
-        doing(alloc, closure(alloc, &[], none(alloc))),
-        b"method m() { { } }",
-    )?;
+    runs(&rt, alloc, closure(alloc, &[], none(alloc)), b"{ }")?;
     let stmts = with(
         with(none(alloc), run(var(alloc, b"x"))),
         back(Ok(Expr::Resend)),
     );
-    prints(
-        &rt,
-        alloc,
-        doing(alloc, closure(alloc, &[b"x", b"y"], stmts)),
-        b"method m() { &(x, y) { x; ^ resend(...) } }",
-    )?;
+    let expr = closure(alloc, &[b"x", b"y"], stmts);
+    runs(&rt, alloc, expr, b"&(x, y) { x; ^ resend(...) }")?;
     let stmts = with(none(alloc), run(text(alloc, b"\\\"")));
-    prints(
-        &rt,
-        alloc,
-        doing(alloc, closure(alloc, &[], stmts)),
-        br#"method m() { { "\\\"" } }"#,
-    )?;
-    prints(
-        &rt,
-        alloc,
-        doing(alloc, made(alloc, b"a", none(alloc))),
-        b"method m() { object isa a }",
-    )?;
-    let fields = with(
-        with(none(alloc), field(alloc, b"f", int(1))),
-        field(alloc, b"g", text(alloc, b"")),
-    );
-    prints(
-        &rt,
-        alloc,
-        doing(alloc, made(alloc, b"a", fields)),
-        br#"method m() { object isa a { f := 1, g := "" } }"#,
-    )
+    runs(&rt, alloc, closure(alloc, &[], stmts), br#"{ "\\\"" }"#)
+}
+
+#[test]
+fn constructors(rt: HostRuntime) -> Result<(), Fail> {
+    let alloc = rt.alloc();
+    runs(&rt, alloc, made(alloc, b"a", none(alloc)), b"object isa a")?;
+    let fields = with(none(alloc), field(alloc, b"f", int(1)));
+    let fields = with(fields, field(alloc, b"g", text(alloc, b"")));
+    let expr = made(alloc, b"a", fields);
+    runs(&rt, alloc, expr, br#"object isa a { f := 1, g := "" }"#)
 }
 
 // x := f(1, { let y := object isa a { f := 2 } }); ^ resend(...), under formals that are named and not
