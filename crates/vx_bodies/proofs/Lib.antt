@@ -1,0 +1,7 @@
+pub mod Complete
+pub mod Sound
+mod Fresh
+mod Counts
+mod Finish
+mod Ends
+mod Scopes
