@@ -1,7 +1,8 @@
 -- Programs and their images, written out.
 use Rattle.std.proofs.Common.{◌≡◌, ℕ, List, [], ◌∷◌, ◌++◌, refl}
 use Rattle.vx_syntax.specs.declared.decl.Decl.TheVariants as d
-use Rattle.vx_program.specs.Program.{any, prelude}
+use Rattle.vx_syntax.specs.Declarations.{any}
+use Rattle.vx_program.specs.Program.{prelude}
 use Rattle.vx_batch.specs.Image.{image_of}
 
 -- the name `a`, and the name `b`

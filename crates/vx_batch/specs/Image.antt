@@ -1,10 +1,11 @@
--- The image of a program: its objects as bytes, version 0.
-use Rattle.std.specs.Prelude.{ℕ, ◌-◌, ◌^◌, min, Bool, not, List, [], ◌∷◌, ◌++◌, length, filter, codes}
+-- The image of a program: its plain objects as bytes, version 0.
+use Rattle.std.specs.Prelude.{ℕ, ◌-◌, ◌^◌, min, Bool, false, not, List, [], ◌∷◌, ◌++◌, length, filter, codes}
 use Rattle.std.specs.Int.{w32, to_be_bytes}
 use Rattle.std.specs.List.{flat_map}
 use Rattle.std.specs.Str.{bytes_eq}
 use Rattle.vx_syntax.specs.declared.decl.Decl.{Decl}
-use Rattle.vx_program.specs.Program.{name_of, parents_of, any}
+use Rattle.vx_syntax.specs.declared.decl.Decl.TheVariants as d
+use Rattle.vx_syntax.specs.Declarations.{any}
 
 -- A number in four bytes, the highest first. One that does not fit them is written as the greatest that does.
 abbrev pub number_bytes : ℕ → List ℕ
@@ -14,13 +15,15 @@ number_bytes n = to_be_bytes w32 (min n (2 ^ 32 - 1))
 abbrev pub name_bytes : List ℕ → List ℕ
 name_bytes name = length name ∷ name
 
--- the name of an object, how many parents it has, and their names
+-- the name of an object, how many parents it has, and their names; no other declaration has bytes
 abbrev pub object_bytes : Decl → List ℕ
-object_bytes decl = name_bytes (name_of decl) ++ number_bytes (length (parents_of decl)) ++ flat_map name_bytes (parents_of decl)
+object_bytes (d.Object name parents) = name_bytes name ++ number_bytes (length parents) ++ flat_map name_bytes parents
+object_bytes decl = []
 
--- whether the object is not the prelude's
+-- whether the declaration is a plain object and not the prelude's
 abbrev pub is_own : Decl → Bool
-is_own decl = not (bytes_eq (name_of decl) any)
+is_own (d.Object name parents) = not (bytes_eq name any)
+is_own decl = false
 
 -- what images begin with: `VXIC`, and the version in one byte
 abbrev pub image_head : List ℕ

@@ -1,8 +1,8 @@
 -- The replies to a script: one text for each of its blocks, from the edits accepted so far.
 use Rattle.std.specs.Prelude.{◌≡◌, ℕ, ◌+◌, ◌<◌, ◌≤◌, List, [], ◌∷◌, ◌++◌, length, Result, Ok, Err, is_ok, if◌then◌else◌}
 use Rattle.std.specs.Result.{result_unwrap_or}
-use Rattle.vx_names.specs.declared.key.DeclKey.TheVariants as k
 use Rattle.vx_syntax.specs.declared.decl.Decl.{Decl}
+use Rattle.vx_syntax.specs.Print.{key_text}
 use Rattle.vx_program.specs.declared.edit.Edit.{Edit}
 use Rattle.vx_program.specs.declared.edit.EditFault.{EditFault}
 use Rattle.vx_program.specs.declared.edit.EditFault.TheVariants as f
@@ -33,8 +33,9 @@ after edits = after_from prelude edits
 -- the reply to an edit, after so many accepted ones
 abbrev pub edit_reply : ℕ → Result (List Decl) EditFault → List ℕ
 edit_reply count (Ok program) = accepted_text (count + 1)
-edit_reply count (Err (f.Exists (k.Object name))) = exists_text name
+edit_reply count (Err (f.Exists key)) = exists_text (key_text key)
 edit_reply count (Err (f.Unknown name)) = unknown_text name
+edit_reply count (Err f.NotYetBuilt) = not_yet_built_text
 edit_reply count (Err f.OutOfMemory) = []
 
 -- The reply to a block that is read so, where the program stands after so many accepted edits. Applying never runs out of memory, and no block is read as want of memory.

@@ -11,9 +11,9 @@ line text = text ++ 10 ∷ []
 abbrev pub accepted_text : ℕ → List ℕ
 accepted_text count = line (codes "accepted " ++ decimal count)
 
--- an edit would take this name, which is taken
+-- an edit would take the key of this text, which is taken
 abbrev pub exists_text : List ℕ → List ℕ
-exists_text name = line (codes "refused exists " ++ name)
+exists_text key = line (codes "refused exists " ++ key)
 
 -- an edit names this object, which is not there
 abbrev pub unknown_text : List ℕ → List ℕ

@@ -25,19 +25,26 @@ pub fn image(alloc: Global, decls: &[Decl]) -> Result<Vec<u8>, AllocError>
     Ok(image)
 }
 
-// Whether the declaration is no part of the prelude.
+// Whether the declaration is a plain object and no part of the prelude.
 fn is_own(decl: &Decl) -> bool
     ensures { result ≡ is_own decl.now }
 {
     match decl {
         Decl::Object { name, .. } => !matches!(name.bytes(), b"any"),
+        _ => false,
     }
 }
 
 fn own_count(decls: &[Decl]) -> usize
     ensures { result ≡ length (filter is_own decls.now) }
 {
-    decls.iter().filter(|decl| is_own(decl)).count()
+    let mut count = 0;
+    for decl in decls {
+        if is_own(decl) {
+            count += 1;
+        }
+    }
+    count
 }
 
 fn append_number(image: &mut Vec<u8>, number: usize) -> Result<(), AllocError>
@@ -73,6 +80,7 @@ fn append_object(image: &mut Vec<u8>, decl: &Decl) -> Result<(), AllocError>
             append_number(image, parents.len())?;
             append_names(image, parents.as_slice())
         }
+        _ => Ok(()),
     }
 }
 

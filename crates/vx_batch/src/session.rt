@@ -10,12 +10,11 @@ ghost use Rattle.vx_batch.specs.Steps.{IsAnswered, IsEdited, IsRefusal, IsAfter}
 use crate::{image, text};
 use std::alloc::{AllocError, Global};
 use vx_blocks::Block;
-use vx_names::DeclKey;
 use vx_program::{Edit, EditFault, Program};
 use vx_reader::{Command, ReadFault, read_block};
 
 /// A script that is being answered: the program, and how many edits made it.
-#[derive(Debug, Drop)]
+#[derive(Drop)]
 pub(crate) struct Session {
     pub program: Program,
     pub accepted: u64,
@@ -41,14 +40,8 @@ impl Session {
         ensures counted { self.new.accepted ≤ self.old.accepted + 1 }
     {
         match block {
-            Block::Whole(bytes) => {
-                let reply = self.read(alloc, bytes.as_slice())?;
-                Ok(reply)
-            }
-            Block::TooLong(len) => {
-                let refusal = text::refused_too_long(alloc, *len)?;
-                Ok(refusal)
-            }
+            Block::Whole(bytes) => self.read(alloc, bytes.as_slice()),
+            Block::TooLong(len) => text::refused_too_long(alloc, *len),
         }
     }
 
@@ -98,8 +91,9 @@ fn refusal(alloc: Global, fault: EditFault) -> Result<Vec<u8>, AllocError>
     ensures { IfOk result (λ text. IsRefusal fault text.items) }
 {
     match fault {
-        EditFault::Exists(DeclKey::Object(name)) => text::refused_exists(alloc, &name),
+        EditFault::Exists(key) => text::refused_exists(alloc, &key),
         EditFault::Unknown(name) => text::refused_unknown(alloc, &name),
+        EditFault::NotYetBuilt => text::refused_not_yet_built(alloc),
         EditFault::OutOfMemory => Err(AllocError),
     }
 }

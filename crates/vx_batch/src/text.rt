@@ -1,10 +1,12 @@
 //! The texts of replies.
 
 ghost use Rattle.std.specs.Prelude.{◌≡◌, ◌++◌, IfOk, OnOk};
+ghost use Rattle.vx_syntax.specs.Print.{key_text};
 ghost use Rattle.vx_batch.specs.Text.{line, accepted_text, exists_text, unknown_text, syntax_text, not_yet_built_text, image_text, too_long_text, hex_lines};
 
 use std::alloc::{AllocError, Global};
-use vx_names::Name;
+use vx_names::{DeclKey, Name};
+use vx_syntax::key_text;
 
 // The most bytes of an image that one line shows.
 const IMAGE_LINE_BYTES: usize = 32;
@@ -20,11 +22,12 @@ pub fn accepted(alloc: Global, count: u64) -> Result<Vec<u8>, AllocError>
     )
 }
 
-/// Refuses an edit that would take a name which is taken.
-pub fn refused_exists(alloc: Global, name: &Name) -> Result<Vec<u8>, AllocError>
-    ensures { IfOk result (λ text. text.items ≡ exists_text name.now) }
+/// Refuses an edit that would take a key which is taken.
+pub fn refused_exists(alloc: Global, key: &DeclKey) -> Result<Vec<u8>, AllocError>
+    ensures { IfOk result (λ text. text.items ≡ exists_text (key_text key.now)) }
 {
-    one_line(alloc, b"refused exists ", name.bytes())
+    let key = key_text(alloc, key)?;
+    one_line(alloc, b"refused exists ", key.as_slice())
 }
 
 /// Refuses an edit that names an object which is not there.
@@ -108,8 +111,11 @@ mod tests {
         for (text, want) in [
             (accepted(alloc, 0)?, b"accepted 0\n".as_slice()),
             (accepted(alloc, 1203)?, b"accepted 1203\n"),
-            (refused_exists(alloc, &name)?, b"refused exists Ball\n"),
             (refused_unknown(alloc, &name)?, b"refused unknown Ball\n"),
+            (
+                refused_exists(alloc, &DeclKey::Object(name))?,
+                b"refused exists Ball\n",
+            ),
             (refused_syntax(alloc)?, b"refused syntax\n"),
             (refused_not_yet_built(alloc)?, b"refused not yet built\n"),
         ] {

@@ -2,16 +2,21 @@
 use Rattle.std.proofs.Common.{◌≡◌, ℕ, List, [], ◌∷◌, Option, Some, None, Bool, true, false, cond, refl, sym, ap, ◌∙◌, inl, inr, Ordering, Less, Equal, Greater}
 use Rattle.std.specs.Option.{is_some, option_map}
 use Rattle.std.specs.List.{AllByRecursion}
-use Rattle.std.specs.Cmp.Lexicographic.{slice_cmp, texts_ties, same_text}
-use Rattle.std.specs.Ordering.{nat_cmp, is_lt, is_eq, ordering_reverse}
-use Rattle.std.proofs.lemmas.Cmp.{nat_list_cmp_total}
+use Rattle.std.specs.Cmp.{Equal-is}
+use Rattle.std.specs.Ordering.{is_lt, is_eq, ordering_reverse}
 use Rattle.std.proofs.lemmas.Bool.{cases_Bool, false≢true}
+use Rattle.vx_program.specs.declared.edit.Change.TheVariants.{Add}
 use Rattle.vx_program.specs.declared.edit.EditFault.TheVariants.{Exists, Unknown}
 use Rattle.vx_names.specs.declared.key.DeclKey.{DeclKey}
 use Rattle.vx_names.specs.declared.key.DeclKey.TheVariants as k
+use Rattle.vx_names.specs.Key.{decl_key_cmp}
+use Rattle.vx_names.specs.KeyLaws.{decl_keys_total}
+use Rattle.vx_names.proofs.Keys.{keys_apart}
 use Rattle.vx_syntax.specs.declared.decl.Decl.{Decl}
 use Rattle.vx_syntax.specs.declared.decl.Decl.TheVariants as d
-use Rattle.vx_program.specs.Program.{find, has_key, is_there, is_before, name_of, parents_of, any, IsOrdered, IsProgram}
+use Rattle.vx_syntax.specs.Declarations.{any}
+use Rattle.vx_syntax.specs.Keys.{key_of}
+use Rattle.vx_program.specs.Program.{find, has_key, is_there, is_before, parents_of, IsOrdered, IsProgram}
 use Rattle.vx_program.specs.Apply.{first_unknown, with_decl, fault_of}
 
 other_way : (o : Ordering) → is_lt o ≡ false → is_eq o ≡ false → is_lt (ordering_reverse o) ≡ true
@@ -19,10 +24,9 @@ other_way Less l e = absurd (false≢true (sym l))
 other_way Equal l e = absurd (false≢true (sym e))
 other_way Greater l e = refl
 
--- of two declarations with different names one goes before the other
-before : (a b : Decl) → is_before a b ≡ false → has_key (k.Object (name_of b)) a ≡ false → is_before b a ≡ true
-before a b l h =
-    ap is_lt (nat_list_cmp_total.antisymm (name_of b) (name_of a)) ∙ other_way (slice_cmp nat_cmp (name_of a) (name_of b)) l (sym (texts_ties (name_of a) (name_of b)) ∙ h)
+-- of two declarations with different keys one goes before the other
+before : (a b : Decl) → is_before a b ≡ false → has_key (key_of b) a ≡ false → is_before b a ≡ true
+before a b l h = ap is_lt (decl_keys_total.antisymm (key_of b) (key_of a)) ∙ other_way (decl_key_cmp (key_of a) (key_of b)) l h
 
 if_then : {X : Type 0} (b : Bool) (x y : X) → b ≡ true → cond b x y ≡ x
 if_then true x y h = refl
@@ -61,12 +65,12 @@ tail_ordered : (a : Decl) (ds : List Decl) → IsOrdered (a ∷ ds) → IsOrdere
 tail_ordered a [] o = tt
 tail_ordered a (b ∷ ds) o = o.1
 
-ordered_with : (ds : List Decl) (new : Decl) → IsOrdered ds → find ds (k.Object (name_of new)) ≡ None → IsOrdered (with_decl ds new)
+ordered_with : (ds : List Decl) (new : Decl) → IsOrdered ds → find ds (key_of new) ≡ None → IsOrdered (with_decl ds new)
 ordered_with [] new o h = tt
 ordered_with (a ∷ ds) new o h =
     elim (cases_Bool (is_before a new)) [
-      | inl t ↦ rw (goes a new ds t) (ordered_behind a new ds t o (ordered_with ds new (tail_ordered a ds o) (none_behind a ds (k.Object (name_of new)) h)))
-      | inr f ↦ rw (stops a new ds f) (before a new f (none_here a ds (k.Object (name_of new)) h), o)
+      | inl t ↦ rw (goes a new ds t) (ordered_behind a new ds t o (ordered_with ds new (tail_ordered a ds o) (none_behind a ds (key_of new) h)))
+      | inr f ↦ rw (stops a new ds f) (before a new f (none_here a ds (key_of new) h), o)
     ]
 
 -- another declaration is found as before
@@ -133,8 +137,8 @@ unmapped : (o : Option (List ℕ)) → option_map Unknown o ≡ None → o ≡ N
 unmapped None h = refl
 unmapped (Some x) h = absurd (cc)
 
--- a declaration without a fault has a free name and known parents
-no_fault : (program : List Decl) (new : Decl) → fault_of program new ≡ None → (find program (k.Object (name_of new)) ≡ None) × ParentsIn program new
+-- a declaration without a fault has a free key and known parents
+no_fault : (program : List Decl) (new : Decl) → fault_of program (Add new) ≡ None → (find program (key_of new) ≡ None) × ParentsIn program new
 no_fault program (d.Object name parents) h =
     elim (cases_Bool (is_there program name)) [
       | inl t ↦
@@ -144,15 +148,16 @@ no_fault program (d.Object name parents) h =
           let s : option_map Unknown (first_unknown program parents) ≡ None = sym (if_else (is_there program name) (Some (Exists (k.Object name))) (option_map Unknown (first_unknown program parents)) f) ∙ h in
           (not_some (find program (k.Object name)) f, known_parents program parents (unmapped (first_unknown program parents) s))
     ]
+no_fault program new h = absurd (cc)
 
-pub joins : (program : List Decl) (new : Decl) → IsProgram program → fault_of program new ≡ None → IsProgram (with_decl program new)
+pub joins : (program : List Decl) (new : Decl) → IsProgram program → fault_of program (Add new) ≡ None → IsProgram (with_decl program new)
 joins program new is h =
     let free = no_fault program new h in
     let other : has_key (k.Object any) new ≡ false =
     elim (cases_Bool (has_key (k.Object any) new)) [
       | inl t ↦
-          let same : name_of new ≡ any = same_text (name_of new) any (sym t) in
-          let s : find program (k.Object any) ≡ None = ap (λ n. find program (k.Object n)) (sym same) ∙ free.0 in
+          let same : key_of new ≡ k.Object any = keys_apart (key_of new) (k.Object any) ((Equal-is (decl_key_cmp (key_of new) (k.Object any))).0 t) in
+          let s : find program (k.Object any) ≡ None = ap (λ key. find program key) (sym same) ∙ free.0 in
           let p = is.prelude in
           absurd (cc)
       | inr f ↦ f

@@ -1,24 +1,25 @@
 -- What a program is.
-use Rattle.std.specs.Prelude.{◌≡◌, ℕ, Bool, nat_eq, true, List, [], ◌∷◌, Option, Some, None, if◌then◌else◌, is_some}
-use Rattle.std.specs.Cmp.Lexicographic.{slice_cmp, pointwise}
-use Rattle.std.specs.Ordering.{nat_cmp, is_lt}
+use Rattle.std.specs.Prelude.{◌≡◌, ℕ, Bool, true, List, [], ◌∷◌, Option, Some, None, if◌then◌else◌, is_some}
+use Rattle.std.specs.Ordering.{is_lt, is_eq}
 use Rattle.std.specs.List.{AllByRecursion}
 use Rattle.vx_names.specs.declared.key.DeclKey.{DeclKey}
 use Rattle.vx_names.specs.declared.key.DeclKey.TheVariants as k
+use Rattle.vx_names.specs.Key.{decl_key_cmp}
 use Rattle.vx_syntax.specs.declared.decl.Decl.{Decl}
 use Rattle.vx_syntax.specs.declared.decl.Decl.TheVariants as d
 use Rattle.vx_syntax.specs.Declarations.{any}
+use Rattle.vx_syntax.specs.Keys.{key_of}
 
--- the name that a declaration gives to an object
-abbrev pub name_of : Decl → List ℕ
-name_of (d.Object name parents) = name
-
+-- the objects that an object or a predicate inherits from; fields and methods have no parents
 abbrev pub parents_of : Decl → List (List ℕ)
 parents_of (d.Object name parents) = parents
+parents_of (d.Predicate name parents test) = parents
+parents_of (d.Field key start changeable) = []
+parents_of (d.Method key formals body) = []
 
 -- whether the declaration has the key
 abbrev pub has_key : DeclKey → Decl → Bool
-has_key (k.Object name) decl = pointwise nat_eq (name_of decl) name
+has_key key decl = is_eq (decl_key_cmp (key_of decl) key)
 
 -- the declaration that has the key
 abbrev pub find : List Decl → DeclKey → Option Decl
@@ -29,9 +30,9 @@ find (decl ∷ decls) key = if has_key key decl then Some decl else find decls k
 abbrev pub is_there : List Decl → List ℕ → Bool
 is_there program name = is_some (find program (k.Object name))
 
--- keys are ordered by their bytes
+-- whether one declaration goes before another in key order
 abbrev pub is_before : Decl → Decl → Bool
-is_before a b = is_lt (slice_cmp nat_cmp (name_of a) (name_of b))
+is_before a b = is_lt (decl_key_cmp (key_of a) (key_of b))
 
 abbrev pub prelude : List Decl
 prelude = d.Object any [] ∷ []

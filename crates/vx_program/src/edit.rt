@@ -54,6 +54,8 @@ pub enum EditFault {
     Exists(DeclKey),
     /// No declaration is an object of this name, the first such in the text of the change.
     Unknown(Name),
+    /// The change adds no object; other changes are not built yet.
+    NotYetBuilt,
     OutOfMemory,
 }
 
@@ -64,6 +66,7 @@ impl EditFault {
         match self {
             EditFault::Exists(key) => Ok(EditFault::Exists(key.copy(alloc)?)),
             EditFault::Unknown(name) => Ok(EditFault::Unknown(name.copy(alloc)?)),
+            EditFault::NotYetBuilt => Ok(EditFault::NotYetBuilt),
             EditFault::OutOfMemory => Ok(EditFault::OutOfMemory),
         }
     }

@@ -2,6 +2,7 @@
 #![tactic(auto)]
 
 mod edit;
+mod key;
 mod program;
 
 pub use edit::{Change, Edit, EditFault};

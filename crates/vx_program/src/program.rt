@@ -1,18 +1,24 @@
-ghost use Rattle.std.specs.Prelude.{◌≡◌, ◌≤◌, length, insert, List, ℕ, IfOk, IfErr, OnOk, true};
+ghost use Rattle.std.specs.Prelude.{◌≡◌, ◌≤◌, length, insert, List, None, ℕ, IfOk, IfErr, OnOk};
 ghost use Rattle.std.specs.Option.{option_copied};
 ghost use Rattle.vx_syntax.specs.declared.decl.Decl.{Decl};
-ghost use Rattle.vx_program.specs.Program.{find, has_key, is_there, is_before, name_of, any, prelude, IsProgram};
+ghost use Rattle.vx_syntax.specs.Declarations.{any};
+ghost use Rattle.vx_syntax.specs.Keys.{key_of};
+ghost use Rattle.vx_program.specs.declared.edit.Change.TheVariants.{Add};
+ghost use Rattle.vx_program.specs.declared.edit.EditFault.TheVariants.{OutOfMemory};
+ghost use Rattle.vx_program.specs.Program.{find, is_there, prelude, IsProgram};
 ghost use Rattle.vx_program.specs.Apply.{first_unknown, with_decl, changed, apply, IsFaultOf, fault_of};
 
 use crate::edit::{Change, Edit, EditFault};
+use crate::key::{compare, is_object};
 use sqlite_items::Items;
 use std::alloc::{AllocError, Global};
+use std::cmp::Ordering;
 use std::marker::Model;
 use vx_names::{DeclKey, Name};
 use vx_syntax::Decl;
 
 /// A well-formed program, which contracts see as its declarations in key order, the prelude among them.
-#[derive(Debug, Drop)]
+#[derive(Drop)]
 pub struct Program {
     alloc: Global,
     decls: Vec<Decl>,
@@ -20,10 +26,14 @@ pub struct Program {
 
 impl Model for Program {
     ghost use Rattle.std.specs.Prelude.{List};
+    ghost use Rattle.std.specs.Coded.{codes};
     ghost use Rattle.vx_syntax.specs.declared.decl.Decl.{Decl};
+    ghost use Rattle.vx_syntax.specs.contracts.decl.Decl as decl;
     ghost use Rattle.vx_program.specs.Program.{IsProgram};
 
     ghost Value = { List Decl };
+
+    ghost coded = { Prim.hlevel (codes, decl.the_row.coded) };
 
     ghost view = { λ p. p.decls.items };
 
@@ -56,7 +66,12 @@ impl Program {
     pub fn find(&self, key: &DeclKey) -> Option<&Decl>
         ensures { option_copied result ≡ find self.now key.now }
     {
-        find(self.decls.as_slice(), key)
+        for decl in self.decls.as_slice() {
+            if compare(decl, key) == Ordering::Equal {
+                return Some(decl);
+            }
+        }
+        None
     }
 
     /// The program after the edit, whose changes it takes in order, all or none.
@@ -89,12 +104,25 @@ impl Program {
         ensures ok { OnOk result (changed self.old change.now ≡ Ok self.new) }
         ensures fault { IfErr result (IsFaultOf (changed self.old change.now)) }
     {
-        let Change::Add(decl) = change;
-        if let Some(fault) = fault_of(self.alloc, self.decls.as_slice(), decl)? {
+        if let Some(fault) = fault_of(self.alloc, self.decls.as_slice(), change)? {
             return Err(fault);
         }
+        if let Change::Add(decl) = change {
+            self.add(decl)?;
+        }
+        Ok(())
+    }
+
+    // The declaration joins the program, since it has no fault.
+    fn add(&mut self, decl: &Decl) -> Result<(), EditFault>
+        requires { fault_of self.old (Add decl.now) ≡ None }
+        ensures ok { OnOk result (with_decl self.old decl.now ≡ self.new) }
+        ensures fault { IfErr result (λ fault. fault ≡ OutOfMemory) }
+    {
         let decl = decl.copy(self.alloc)?;
-        let place = place_of(self.decls.as_slice(), &decl);
+        let key = decl.key(self.alloc)?;
+        let place = place_of(self.decls.as_slice(), &key);
+        drop(key);
         self.decls.insert(place, decl)?;
         Ok(())
     }
@@ -119,37 +147,26 @@ fn copy_decls(alloc: Global, decls: &[Decl]) -> Result<Vec<Decl>, AllocError>
     Ok(copies)
 }
 
-fn find<'a>(decls: &'a [Decl], key: &DeclKey) -> Option<&'a Decl>
-    ensures { option_copied result ≡ find decls.now key.now }
-{
-    let DeclKey::Object(name) = key;
-    find_object(decls, name)
-}
-
-fn find_object<'a>(decls: &'a [Decl], name: &Name) -> Option<&'a Decl>
-    ensures { option_copied result ≡ find decls.now (DeclKey.Object name.now) }
+// Whether there is an object of the name.
+fn is_there(decls: &[Decl], name: &Name) -> bool
+    ensures { result ≡ is_there decls.now name.now }
 {
     for decl in decls {
-        if name_of(decl) == name {
-            return Some(decl);
+        if is_object(decl, name) {
+            return true;
         }
     }
-    None
+    false
 }
 
-fn name_of(decl: &Decl) -> &Name
-    ensures { result.now ≡ name_of decl.now }
+// Why the change may not be made, if there is a reason.
+fn fault_of(alloc: Global, decls: &[Decl], change: &Change) -> Result<Option<EditFault>, AllocError>
+    ensures { IfOk result (λ fault. fault ≡ fault_of decls.now change.now) }
 {
-    let Decl::Object { name, .. } = decl;
-    name
-}
-
-// Why the declaration may not join these.
-fn fault_of(alloc: Global, decls: &[Decl], decl: &Decl) -> Result<Option<EditFault>, AllocError>
-    ensures { IfOk result (λ fault. fault ≡ fault_of decls.now decl.now) }
-{
-    let Decl::Object { name, parents } = decl;
-    if find_object(decls, name).is_some() {
+    let Change::Add(Decl::Object { name, parents }) = change else {
+        return Ok(Some(EditFault::NotYetBuilt));
+    };
+    if is_there(decls, name) {
         return Ok(Some(EditFault::Exists(DeclKey::Object(name.copy(alloc)?))));
     }
     match first_unknown(decls, parents.as_slice()) {
@@ -163,20 +180,20 @@ fn first_unknown<'a>(decls: &[Decl], names: &'a [Name]) -> Option<&'a Name>
     ensures { option_copied result ≡ first_unknown decls.now names.now }
 {
     for name in names {
-        if find_object(decls, name).is_none() {
+        if !is_there(decls, name) {
             return Some(name);
         }
     }
     None
 }
 
-// Where a new declaration stands in key order.
-fn place_of(decls: &[Decl], new: &Decl) -> usize
+// Where a new declaration of the key stands in key order.
+fn place_of(decls: &[Decl], key: &DeclKey) -> usize
     ensures within { result ≤ length decls.now }
-    ensures place { with_decl decls.now new.now ≡ insert decls.now result new.now }
+    ensures place { (new : Decl) → key_of new ≡ key.now → with_decl decls.now new ≡ insert decls.now result new }
 {
     for (place, decl) in decls.iter().enumerate() {
-        if name_of(decl) >= name_of(new) {
+        if compare(decl, key) != Ordering::Less {
             return place;
         }
     }

@@ -1,7 +1,7 @@
 -- What remains of a state before a token remains of the next state after it.
 use Rattle.std.proofs.Common.{◌≡◌, ℕ, List, [], ◌∷◌, ◌++◌, refl, sym, subst, append_assoc}
 use Rattle.vx_syntax.specs.declared.decl.Decl.TheVariants as d
-use Rattle.vx_program.specs.Program.{any}
+use Rattle.vx_syntax.specs.Declarations.{any}
 use Rattle.vx_program.specs.declared.edit.Change.{Change}
 use Rattle.vx_program.specs.declared.edit.Change.TheVariants as c
 use Rattle.vx_syntax.specs.declared.token.Token.{Token}

@@ -4,7 +4,7 @@ use Rattle.std.proofs.lemmas.Bool.{le-leb, lt-leb}
 use Rattle.std.proofs.lemmas.List.{drop_more, drop_all}
 use Rattle.std.specs.Option.{option_map}
 use Rattle.vx_reader.specs.declared.token.Quoted.{Quoted}
-use Rattle.vx_reader.specs.declared.text.TheConstants.{TEXT_BYTES}
+use Rattle.vx_syntax.specs.declared.token.TheConstants.{TEXT_BYTES}
 use Rattle.vx_reader.specs.declared.text.StringByte.{StringByte}
 use Rattle.vx_reader.specs.declared.text.StringByte.TheVariants.{Closing, Backslash, Held, Wrong}
 use Rattle.vx_reader.specs.Strings.{string_byte, behind_backslash, holding, quoted_behind, short, quoted}

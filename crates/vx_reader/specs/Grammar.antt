@@ -3,7 +3,7 @@
 use Rattle.std.specs.Prelude.{ℕ, List, [], ◌∷◌, ◌++◌, codes}
 use Rattle.vx_syntax.specs.declared.decl.Decl.{Decl}
 use Rattle.vx_syntax.specs.declared.decl.Decl.TheVariants as d
-use Rattle.vx_program.specs.Program.{any}
+use Rattle.vx_syntax.specs.Declarations.{any}
 use Rattle.vx_program.specs.declared.edit.Change.{Change}
 use Rattle.vx_program.specs.declared.edit.Change.TheVariants.{Add}
 use Rattle.vx_syntax.specs.declared.token.Keyword.TheVariants.{Object, Isa}

@@ -2,7 +2,7 @@
 use Rattle.std.specs.Prelude.{if◌then◌else◌, List, [], ◌∷◌, ◌++◌, ℕ, Option, Some, None}
 use Rattle.std.specs.Str.{bytes_eq}
 use Rattle.vx_syntax.specs.declared.decl.Decl.TheVariants as d
-use Rattle.vx_program.specs.Program.{any}
+use Rattle.vx_syntax.specs.Declarations.{any}
 use Rattle.vx_program.specs.declared.edit.Change.{Change}
 use Rattle.vx_program.specs.declared.edit.Change.TheVariants as c
 use Rattle.vx_syntax.specs.declared.token.Keyword.TheVariants as w

@@ -5,7 +5,7 @@ use std::alloc::AllocError;
 use vx_program::Edit;
 
 /// What a block asks for.
-#[derive(Debug, Drop)]
+#[derive(Drop)]
 pub enum Command {
     /// Nothing.
     Blank,

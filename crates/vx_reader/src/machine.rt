@@ -1,5 +1,5 @@
 ghost use Rattle.std.specs.Prelude.{◌≡◌, [], ◌∷◌, IfOk};
-ghost use Rattle.vx_program.specs.Program.{any};
+ghost use Rattle.vx_syntax.specs.Declarations.{any};
 ghost use Rattle.vx_reader.specs.Machine as spec;
 
 use crate::spelling::name;

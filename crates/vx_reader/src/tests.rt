@@ -22,8 +22,10 @@ fn description(alloc: Global, block: &[u8]) -> Result<Vec<u8>, AllocError> {
         Ok(Command::Image) => "image",
         Ok(Command::Edit(edit)) => {
             let mut text = Vec::new(alloc);
-            for Change::Add(Decl::Object { name, parents }) in edit.changes.as_slice() {
-                push_object(&mut text, name, parents.as_slice())?;
+            for change in edit.changes.as_slice() {
+                if let Change::Add(Decl::Object { name, parents }) = change {
+                    push_object(&mut text, name, parents.as_slice())?;
+                }
             }
             return Ok(text);
         }
