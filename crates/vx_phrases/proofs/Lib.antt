@@ -1,0 +1,12 @@
+pub mod TestComplete
+pub mod TestSound
+pub mod TestFinish
+pub mod DeclComplete
+pub mod DeclSound
+pub mod DeclBegins
+pub mod DeclEnds
+pub mod Completions
+pub mod DeclFinish
+pub mod DeclCounts
+pub mod KeySteps
+pub mod KeyBegins

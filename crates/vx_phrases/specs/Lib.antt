@@ -1,0 +1,7 @@
+pub mod Laws
+pub mod TestMachine
+pub mod TestRemains
+pub mod DeclMachine
+pub mod DeclRemains
+pub mod KeyMachine
+pub mod KeyRemains
