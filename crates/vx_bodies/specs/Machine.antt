@@ -110,6 +110,7 @@ operated g.multiplying op p a = record { comparing = p.comparing; adding = p.add
 operated g.adding op p a = record { comparing = p.comparing; adding = waiting op (joined p.adding (joined p.multiplying a)); multiplying = None }
 operated g.comparing op p a = record { comparing = waiting op (value p a); adding = None; multiplying = None }
 
+-- after an operand: an operator, or the end of the expression
 unfoldable pub after_operand : Pending → Expr → Within → Token → Next
 after_operand p a w (k.Operator op) = On (st.Operand (operated (level op) op p a) w)
 after_operand p a w token = ended w.brackets w.kind w.block (value p a) token
@@ -122,6 +123,7 @@ opened formals p w = record {
   statements = [];
 }
 
+-- where an operand is wanted
 unfoldable pub operand : Pending → Within → Token → Next
 operand p w (k.Number n) = On (st.Operated p (e.Int (pos n)) w)
 operand p w (k.Text bytes) = On (st.Operated p (e.Text bytes) w)
@@ -134,14 +136,17 @@ operand p w (k.Keyword kw.Object) = On (st.Inside pt.Object p w)
 operand p w (k.Keyword kw.Resend) = On (st.Inside pt.Resend p w)
 operand p w _ = Stuck
 
+-- after a `-` that is no operator
 unfoldable pub signed : Pending → Within → Token → Next
 signed p w (k.Number n) = On (st.Operated p (e.Int (neg_ℤ (pos n))) w)
 signed p w _ = Stuck
 
+-- after a name, which may be called
 unfoldable pub called : Bytes → Pending → Within → Token → Next
 called x p w (k.Mark mk.Open) = On (st.Inside (pt.FirstArgument x) p w)
 called x p w token = after_operand p (e.Name x) w token
 
+-- after `name (`
 unfoldable pub first_argument : Bytes → Pending → Within → Token → Next
 first_argument x p w (k.Mark mk.Close) = On (st.Operated p (sent x []) w)
 first_argument x p w token = operand no_pending (bracketed (Arguments p x []) w) token
@@ -150,36 +155,44 @@ first_argument x p w token = operand no_pending (bracketed (Arguments p x []) w)
 unfoldable pub formal : List Bytes → Bytes → Pending → Within → Next
 formal given x p w = if is_bound (with_formals (scope_in w) given) x then Stuck else On (st.Inside (pt.Formed given x) p w)
 
+-- after `&`
 unfoldable pub ampersand : Pending → Within → Token → Next
 ampersand p w (k.Mark mk.Open) = On (st.Inside pt.FirstFormal p w)
 ampersand p w _ = Stuck
 
+-- after `& (`
 unfoldable pub first_formal : Pending → Within → Token → Next
 first_formal p w (k.Mark mk.Close) = On (st.Inside (pt.Formals []) p w)
 first_formal p w (k.Word x) = formal [] x p w
 first_formal p w _ = Stuck
 
+-- after `& ( .. ,`
 unfoldable pub next_formal : List Bytes → Pending → Within → Token → Next
 next_formal given p w (k.Word x) = formal given x p w
 next_formal given p w _ = Stuck
 
+-- after `& ( .. name`
 unfoldable pub formed : List Bytes → Bytes → Pending → Within → Token → Next
 formed given x p w (k.Mark mk.Close) = On (st.Inside (pt.Formals (given ++ x ∷ [])) p w)
 formed given x p w (k.Mark mk.Comma) = if nat_lt (length given + 1) max_closure_formals then On (st.Inside (pt.Formal (given ++ x ∷ [])) p w) else Stuck
 formed given x p w _ = Stuck
 
+-- after `& ( .. )`
 unfoldable pub formals : List Bytes → Pending → Within → Token → Next
 formals given p w (k.Mark mk.OpenBlock) = On (st.Statement (opened given p w))
 formals given p w _ = Stuck
 
+-- after `object`
 unfoldable pub object : Pending → Within → Token → Next
 object p w (k.Keyword kw.Isa) = On (st.Inside pt.Isa p w)
 object p w _ = Stuck
 
+-- after `object isa`
 unfoldable pub isa : Pending → Within → Token → Next
 isa p w (k.Word x) = On (st.Inside (pt.Parent x) p w)
 isa p w _ = Stuck
 
+-- after `object isa name`, which may be all
 unfoldable pub parent : Bytes → Pending → Within → Token → Next
 parent x p w (k.Mark mk.OpenBlock) = On (st.Inside (pt.FirstField x) p w)
 parent x p w token = after_operand p (e.New x []) w token
@@ -190,27 +203,33 @@ field x given f p w =
     if nat_lt max_field_bytes (length f) then Stuck else
     if is_among (field_names given) f then Stuck else On (st.Inside (pt.FieldName x given f) p w)
 
+-- after `object isa name {`
 unfoldable pub first_field : Bytes → Pending → Within → Token → Next
 first_field x p w (k.Mark mk.CloseBlock) = On (st.Operated p (e.New x []) w)
 first_field x p w (k.Word f) = field x [] f p w
 first_field x p w _ = Stuck
 
+-- after `object isa name { .. ,`
 unfoldable pub next_field : Bytes → List (Bytes × Expr) → Pending → Within → Token → Next
 next_field x given p w (k.Word f) = field x given f p w
 next_field x given p w _ = Stuck
 
+-- after `object isa name { .. field`
 unfoldable pub field_name : Bytes → List (Bytes × Expr) → Bytes → Pending → Within → Token → Next
 field_name x given f p w (k.Mark mk.Becomes) = On (st.Operand no_pending (bracketed (Fields p x given f) w))
 field_name x given f p w _ = Stuck
 
+-- after `resend`
 unfoldable pub resend : Pending → Within → Token → Next
 resend p w (k.Mark mk.Open) = On (st.Inside pt.ResendOpen p w)
 resend p w _ = Stuck
 
+-- after `resend (`
 unfoldable pub resend_open : Pending → Within → Token → Next
 resend_open p w (k.Mark mk.Dots) = On (st.Inside pt.ResendDots p w)
 resend_open p w _ = Stuck
 
+-- after `resend ( ...`
 unfoldable pub resend_dots : Pending → Within → Token → Next
 resend_dots p w (k.Mark mk.Close) = On (st.Operated p e.Resend w)
 resend_dots p w _ = Stuck
@@ -243,6 +262,7 @@ unfoldable pub semicolon : List Stmt → Block → Next
 semicolon [] b = On (st.Closing b)
 semicolon _ b = Stuck
 
+-- where a statement may begin
 unfoldable pub statement : Block → Token → Next
 statement b (k.Keyword kw.Let) = On (st.Let b)
 statement b (k.Mark mk.Caret) = On (st.Operand no_pending (as_statement Answer b))
@@ -251,6 +271,7 @@ statement b (k.Mark mk.CloseBlock) = closed b.levels b.statements
 statement b (k.Mark mk.Semicolon) = semicolon b.statements b
 statement b token = operand no_pending (as_statement Plain b) token
 
+-- after the first name of a statement
 unfoldable pub named : Block → Bytes → Token → Next
 named b x (k.Mark mk.Becomes) = if is_variable (block_scope b) x then On (st.Operand no_pending (as_statement (Changed x) b)) else Stuck
 named b x token = called x no_pending (as_statement Plain b) token
@@ -259,19 +280,23 @@ named b x token = called x no_pending (as_statement Plain b) token
 unfoldable pub fresh : Block → Bool → Bytes → Next
 fresh b var x = if is_bound (block_scope b) x then Stuck else On (st.Bound b var x)
 
+-- after `let`
 unfoldable pub after_let : Block → Token → Next
 after_let b (k.Keyword kw.Var) = On (st.LetVar b)
 after_let b (k.Word x) = fresh b false x
 after_let b _ = Stuck
 
+-- after `let var`
 unfoldable pub after_var : Block → Token → Next
 after_var b (k.Word x) = fresh b true x
 after_var b _ = Stuck
 
+-- after `let name` or `let var name`
 unfoldable pub bound : Block → Bool → Bytes → Token → Next
 bound b var x (k.Mark mk.Becomes) = On (st.Operand no_pending (as_statement (Value var x) b))
 bound b var x _ = Stuck
 
+-- where only the end of the body may follow
 unfoldable pub closing : Block → Token → Next
 closing b (k.Mark mk.CloseBlock) = closed b.levels b.statements
 closing b _ = Stuck

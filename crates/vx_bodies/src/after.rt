@@ -46,6 +46,7 @@ fn reopened(level: Level, levels: Stack<Level>, body: Items<Stmt>) -> Next
     Next::On(State::Operated(pending, Expr::Closure(formals, Body(body)), within))
 }
 
+/// After the `}` of a body.
 #[tactic(auto, unfolding(crate::specs::Machine::closed))]
 pub fn closed(mut levels: Stack<Level>, body: Items<Stmt>) -> Next
     ensures { result ≡ spec.closed levels body }

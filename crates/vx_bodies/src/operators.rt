@@ -53,6 +53,7 @@ pub fn value(alloc: Global, pending: Pending, a: Expr) -> Result<Expr, AllocErro
     joined(alloc, comparing, sum)
 }
 
+/// Nothing waits.
 pub fn no_pending() -> Pending
     ensures { result ≡ spec.no_pending }
 {

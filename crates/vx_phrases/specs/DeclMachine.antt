@@ -217,12 +217,23 @@ abbrev pub with_test : Bytes → List Bytes → Option Test → Option Decl
 with_test x parents None = None
 with_test x parents (Some test) = Some (d.Predicate x parents test)
 
+abbrev pub whole_object : Bytes → Decl
+whole_object x = d.Object x (any ∷ [])
+
+abbrev pub whole_parents : Bytes → NamesState → Option Decl
+whole_parents x (n.Given parents) = Some (d.Object x parents)
+whole_parents x (n.Wanted given) = None
+
+abbrev pub whole_field : Bool → FieldState → Option Decl
+whole_field changeable (f.Held key) = Some (d.Field key s.Nil changeable)
+whole_field changeable state = None
+
 -- the declaration that is read, where it may end there
 unfoldable pub decl_finished : DeclState → Option Decl
-decl_finished (st.ObjectNamed x) = Some (d.Object x (any ∷ []))
-decl_finished (st.Parents x (n.Given parents)) = Some (d.Object x parents)
+decl_finished (st.ObjectNamed x) = Some (whole_object x)
+decl_finished (st.Parents x state) = whole_parents x state
 decl_finished (st.PredicateTest x parents state) = with_test x parents (test_finished state)
-decl_finished (st.Field changeable (f.Held key)) = Some (d.Field key s.Nil changeable)
+decl_finished (st.Field changeable state) = whole_field changeable state
 decl_finished (st.Whole decl) = Some decl
 decl_finished state = None
 

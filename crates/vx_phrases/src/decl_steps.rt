@@ -1,5 +1,5 @@
 //! One token of a declaration.
-ghost use Rattle.std.specs.Prelude.{◌≡◌, [], ◌∷◌, Some, IfOk, is_some};
+ghost use Rattle.std.specs.Prelude.{◌≡◌, [], ◌∷◌, IfOk, is_some};
 ghost use Rattle.vx_syntax.specs.Declarations.{any};
 ghost use Rattle.vx_bodies.specs.Machine.{IsSmall, step};
 ghost use Rattle.vx_phrases.specs.TestMachine.{test_step, test_finished};
@@ -14,7 +14,7 @@ use crate::words::{any_name, method_key};
 use sqlite_items::Items;
 use std::alloc::{AllocError, Global};
 use vx_bodies::{Next, State};
-use vx_names::{FieldKey, Name};
+use vx_names::Name;
 use vx_syntax::{Body, Decl, Keyword, Mark, Start, Test, Token};
 
 fn decl_begins(token: Token) -> Option<DeclState>
@@ -128,12 +128,21 @@ fn predicate_given(alloc: Global, name: Name, given: Items<Name>, token: Token) 
     ensures { result ≡ spec.predicate_parents name (NamesState.Given given) token }
 {
     match token {
-        Token::Keyword(Keyword::When) => Some(DeclState::PredicateTest(name, given, test_begun(alloc))),
+        Token::Keyword(Keyword::When) => Some(DeclState::PredicateTest(
+            name,
+            given,
+            test_begun(alloc),
+        )),
         token => in_predicate(name, name_given(given, token)),
     }
 }
 
-fn predicate_parents(alloc: Global, name: Name, state: NamesState, token: Token) -> Result<Option<DeclState>, AllocError>
+fn predicate_parents(
+    alloc: Global,
+    name: Name,
+    state: NamesState,
+    token: Token,
+) -> Result<Option<DeclState>, AllocError>
     ensures { IfOk result (λ next. next ≡ spec.predicate_parents name state token) }
 {
     match state {
@@ -151,7 +160,13 @@ fn in_test(name: Name, parents: Items<Name>, next: Option<TestState>) -> Option<
     }
 }
 
-fn predicate_test(alloc: Global, name: Name, parents: Items<Name>, state: TestState, token: Token) -> Result<Option<DeclState>, AllocError>
+fn predicate_test(
+    alloc: Global,
+    name: Name,
+    parents: Items<Name>,
+    state: TestState,
+    token: Token,
+) -> Result<Option<DeclState>, AllocError>
     requires { IsSmall token }
     ensures { IfOk result (λ next. next ≡ spec.in_test name parents (test_step state token)) }
 {
@@ -193,7 +208,12 @@ fn in_body(head: Head, next: Next) -> Result<Option<DeclState>, AllocError>
     }
 }
 
-fn body(alloc: Global, head: Head, state: State, token: Token) -> Result<Option<DeclState>, AllocError>
+fn body(
+    alloc: Global,
+    head: Head,
+    state: State,
+    token: Token,
+) -> Result<Option<DeclState>, AllocError>
     requires { IsSmall token }
     ensures { IfOk result (λ next. next ≡ spec.in_body head (step state token)) }
 {
@@ -210,7 +230,11 @@ pub fn decl_begun() -> DeclState
 
 /// The state after the token, and None where no declaration goes on with it.
 #[tactic(auto, unfolding(crate::specs::DeclMachine::decl_step))]
-pub fn decl_step(alloc: Global, state: DeclState, token: Token) -> Result<Option<DeclState>, AllocError>
+pub fn decl_step(
+    alloc: Global,
+    state: DeclState,
+    token: Token,
+) -> Result<Option<DeclState>, AllocError>
     requires { IsSmall token }
     ensures { IfOk result (λ next. next ≡ spec.decl_step state token) }
 {
@@ -222,7 +246,9 @@ pub fn decl_step(alloc: Global, state: DeclState, token: Token) -> Result<Option
         DeclState::Predicate => Ok(predicate(token)),
         DeclState::PredicateNamed(name) => Ok(predicate_named(alloc, name, token)),
         DeclState::PredicateParents(name, state) => predicate_parents(alloc, name, state, token),
-        DeclState::PredicateTest(name, parents, state) => predicate_test(alloc, name, parents, state, token),
+        DeclState::PredicateTest(name, parents, state) => predicate_test(
+            alloc, name, parents, state, token,
+        ),
         DeclState::Var => Ok(var(token)),
         DeclState::Field(changeable, state) => Ok(field(changeable, state, token)),
         DeclState::Method(state) => method(alloc, state, token),
@@ -231,5 +257,103 @@ pub fn decl_step(alloc: Global, state: DeclState, token: Token) -> Result<Option
             drop(decl);
             Ok(None)
         }
+    }
+}
+
+fn only_any(alloc: Global) -> Result<Items<Name>, AllocError>
+    ensures { IfOk result (λ parents. parents ≡ any ∷ []) }
+{
+    let mut parents = Items::new(alloc);
+    parents.push(any_name(alloc)?)?;
+    Ok(parents)
+}
+
+fn whole_object(alloc: Global, name: Name) -> Result<Decl, AllocError>
+    ensures { IfOk result (λ decl. decl ≡ spec.whole_object name) }
+{
+    let parents = only_any(alloc)?;
+    Ok(Decl::Object { name, parents })
+}
+
+fn whole_parents(name: Name, state: NamesState) -> Option<Decl>
+    ensures { result ≡ spec.whole_parents name state }
+{
+    match state {
+        NamesState::Given(parents) => Some(Decl::Object { name, parents }),
+        NamesState::Wanted(_) => None,
+    }
+}
+
+fn with_test(name: Name, parents: Items<Name>, test: Option<Test>) -> Option<Decl>
+    ensures { result ≡ spec.with_test name parents test }
+{
+    match test {
+        Some(test) => Some(Decl::Predicate {
+            name,
+            parents,
+            test,
+        }),
+        None => None,
+    }
+}
+
+fn whole_test(
+    alloc: Global,
+    name: Name,
+    parents: Items<Name>,
+    state: TestState,
+) -> Result<Option<Decl>, AllocError>
+    ensures { IfOk result (λ decl. decl ≡ spec.with_test name parents (test_finished state)) }
+{
+    let test = test_finished(alloc, state)?;
+    Ok(with_test(name, parents, test))
+}
+
+fn whole_field(changeable: bool, state: FieldState) -> Option<Decl>
+    ensures { result ≡ spec.whole_field changeable state }
+{
+    match state {
+        FieldState::Held(key) => Some(Decl::Field {
+            key,
+            start: Start::Nil,
+            changeable,
+        }),
+        state => {
+            drop(state);
+            None
+        }
+    }
+}
+
+/// The declaration that is read, and None where more is needed.
+#[tactic(auto, unfolding(crate::specs::DeclMachine::decl_finished))]
+pub fn decl_finished(alloc: Global, state: DeclState) -> Result<Option<Decl>, AllocError>
+    ensures { IfOk result (λ decl. decl ≡ spec.decl_finished state) }
+{
+    match state {
+        DeclState::ObjectNamed(name) => Ok(Some(whole_object(alloc, name)?)),
+        DeclState::Parents(name, state) => Ok(whole_parents(name, state)),
+        DeclState::PredicateTest(name, parents, state) => whole_test(alloc, name, parents, state),
+        DeclState::Field(changeable, state) => Ok(whole_field(changeable, state)),
+        DeclState::Whole(decl) => Ok(Some(decl)),
+        state => {
+            drop(state);
+            Ok(None)
+        }
+    }
+}
+
+/// Whether the declaration may end here.
+#[tactic(auto, unfolding(crate::specs::DeclMachine::decl_finished))]
+pub fn decl_may_end(state: &DeclState) -> bool
+    ensures { result ≡ is_some (spec.decl_finished state.now) }
+{
+    match state {
+        DeclState::ObjectNamed(_) => true,
+        DeclState::Parents(_, NamesState::Given(_)) => true,
+        DeclState::PredicateTest(_, _, state) => test_may_end(state),
+        DeclState::Field(_, FieldState::Held(_)) => true,
+        DeclState::Whole(_) => true,
+        _ => false,
     }
 }

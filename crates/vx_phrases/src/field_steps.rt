@@ -11,7 +11,11 @@ use vx_syntax::{Decl, Mark, Start, Token};
 fn name(changeable: bool, name: Name) -> Option<DeclState>
     ensures { result ≡ spec.field_name changeable name }
 {
-    if is_short(&name) { Some(DeclState::Field(changeable, FieldState::Named(name))) } else { None }
+    if is_short(&name) {
+        Some(DeclState::Field(changeable, FieldState::Named(name)))
+    } else {
+        None
+    }
 }
 
 fn begun(changeable: bool, token: Token) -> Option<DeclState>
@@ -55,7 +59,10 @@ fn at(changeable: bool, name: Name, token: Token) -> Option<DeclState>
     ensures { result ≡ spec.field changeable (FieldState.At name) token }
 {
     match token {
-        Token::Word(specialiser) => Some(DeclState::Field(changeable, FieldState::Holder(FieldKey { name, specialiser }))),
+        Token::Word(specialiser) => Some(DeclState::Field(
+            changeable,
+            FieldState::Holder(FieldKey { name, specialiser }),
+        )),
         _ => None,
     }
 }
@@ -127,7 +134,10 @@ fn becomes(changeable: bool, key: FieldKey, token: Token) -> Option<DeclState>
         Token::Word(name) => started(key, changeable, start_word(&name)),
         Token::Number(n) => started(key, changeable, Some(positive(n))),
         Token::Text(bytes) => started(key, changeable, Some(Start::Text(bytes))),
-        Token::Operator(Operator::Minus) => Some(DeclState::Field(changeable, FieldState::Signed(key))),
+        Token::Operator(Operator::Minus) => Some(DeclState::Field(
+            changeable,
+            FieldState::Signed(key),
+        )),
         _ => None,
     }
 }

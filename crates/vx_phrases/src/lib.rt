@@ -13,7 +13,7 @@ mod test_steps;
 mod words;
 
 pub use decl_state::{DeclState, FieldState, Head, Message, MethodState, NamesState};
-pub use decl_steps::{decl_begun, decl_step};
+pub use decl_steps::{decl_begun, decl_finished, decl_may_end, decl_step};
 pub use key_state::{KeyMessage, KeyState};
 pub use key_steps::{key_begun, key_finished, key_is_whole, key_step};
 pub use laws::{

@@ -57,7 +57,11 @@ fn with_formal(head: Head, formal: Option<Name>, specialiser: Name) -> Result<He
     })
 }
 
-fn two_formals(alloc: Global, first: Option<Name>, second: Option<Name>) -> Result<Items<Option<Name>>, AllocError>
+fn two_formals(
+    alloc: Global,
+    first: Option<Name>,
+    second: Option<Name>,
+) -> Result<Items<Option<Name>>, AllocError>
     ensures { IfOk result (λ formals. formals ≡ first ∷ second ∷ []) }
 {
     let mut formals = Items::new(alloc);
@@ -73,7 +77,12 @@ struct NewFormal {
     specialiser: Name,
 }
 
-fn with_second(alloc: Global, operator: Operator, first: NewFormal, second: NewFormal) -> Result<Head, AllocError>
+fn with_second(
+    alloc: Global,
+    operator: Operator,
+    first: NewFormal,
+    second: NewFormal,
+) -> Result<Head, AllocError>
     ensures { IfOk result (λ head. Some head ≡ spec.with_last (Message.Half operator first.name first.specialiser) second.name second.specialiser) }
 {
     let name = operator_name(alloc, operator)?;
@@ -91,7 +100,12 @@ fn with_last(alloc: Global, message: Message, last: NewFormal) -> Result<Option<
 {
     match message {
         Message::Named(head) => Ok(Some(with_formal(head, last.name, last.specialiser)?)),
-        Message::Half(operator, name, specialiser) => Ok(Some(with_second(alloc, operator, NewFormal { name, specialiser }, last)?)),
+        Message::Half(operator, name, specialiser) => Ok(Some(with_second(
+            alloc,
+            operator,
+            NewFormal { name, specialiser },
+            last,
+        )?)),
         Message::Sign(_) => {
             drop(last);
             Ok(None)
@@ -143,7 +157,12 @@ fn formal_next(message: Option<Message>) -> Option<DeclState>
     }
 }
 
-fn specialised(alloc: Global, message: Message, formal: NewFormal, token: Token) -> Result<Option<DeclState>, AllocError>
+fn specialised(
+    alloc: Global,
+    message: Message,
+    formal: NewFormal,
+    token: Token,
+) -> Result<Option<DeclState>, AllocError>
     ensures { IfOk result (λ next. next ≡ spec.specialised message formal.name formal.specialiser token) }
 {
     match token {
@@ -157,14 +176,32 @@ fn specialised(alloc: Global, message: Message, formal: NewFormal, token: Token)
     }
 }
 
-fn unspecialised(alloc: Global, message: Message, name: Name, token: Token) -> Result<Option<DeclState>, AllocError>
+fn unspecialised(
+    alloc: Global,
+    message: Message,
+    name: Name,
+    token: Token,
+) -> Result<Option<DeclState>, AllocError>
     ensures { IfOk result (λ next. next ≡ spec.specialised message (Some name) any token) }
 {
     let specialiser = any_name(alloc)?;
-    specialised(alloc, message, NewFormal { name: Some(name), specialiser }, token)
+    specialised(
+        alloc,
+        message,
+        NewFormal {
+            name: Some(name),
+            specialiser,
+        },
+        token,
+    )
 }
 
-fn formal_named(alloc: Global, message: Message, name: Name, token: Token) -> Result<Option<DeclState>, AllocError>
+fn formal_named(
+    alloc: Global,
+    message: Message,
+    name: Name,
+    token: Token,
+) -> Result<Option<DeclState>, AllocError>
     ensures { IfOk result (λ next. next ≡ spec.formal_named message name token) }
 {
     match token {
@@ -211,7 +248,9 @@ fn first_formal(alloc: Global, name: Name, token: Token) -> Option<DeclState>
     ensures { result ≡ spec.first_formal name token }
 {
     match token {
-        Token::Mark(Mark::Close) => Some(DeclState::Method(MethodState::Formed(head_of(alloc, name)))),
+        Token::Mark(Mark::Close) => Some(DeclState::Method(MethodState::Formed(head_of(
+            alloc, name,
+        )))),
         token => formal(Message::Named(head_of(alloc, name)), token),
     }
 }
@@ -239,7 +278,9 @@ fn sign(operator: Operator, token: Token) -> Option<DeclState>
     ensures { result ≡ spec.method (MethodState.Sign operator) token }
 {
     match token {
-        Token::Mark(Mark::Open) => Some(DeclState::Method(MethodState::Formal(Message::Sign(operator)))),
+        Token::Mark(Mark::Open) => Some(DeclState::Method(MethodState::Formal(Message::Sign(
+            operator,
+        )))),
         _ => None,
     }
 }
@@ -248,7 +289,11 @@ fn at(message: Message, name: Option<Name>, token: Token) -> Option<DeclState>
     ensures { result ≡ spec.method (MethodState.At message name) token }
 {
     match token {
-        Token::Word(specialiser) => Some(DeclState::Method(MethodState::Specialised(message, name, specialiser))),
+        Token::Word(specialiser) => Some(DeclState::Method(MethodState::Specialised(
+            message,
+            name,
+            specialiser,
+        ))),
         _ => {
             drop(message);
             drop(name);
@@ -277,7 +322,11 @@ fn whole_head(alloc: Global, head: Head, token: Token) -> Result<Option<DeclStat
 }
 
 /// The state after one more token of a method before its body.
-pub fn method(alloc: Global, state: MethodState, token: Token) -> Result<Option<DeclState>, AllocError>
+pub fn method(
+    alloc: Global,
+    state: MethodState,
+    token: Token,
+) -> Result<Option<DeclState>, AllocError>
     ensures { IfOk result (λ next. next ≡ spec.method state token) }
 {
     match state {
@@ -288,7 +337,12 @@ pub fn method(alloc: Global, state: MethodState, token: Token) -> Result<Option<
         MethodState::Formal(message) => Ok(formal(message, token)),
         MethodState::FormalNamed(message, name) => formal_named(alloc, message, name, token),
         MethodState::At(message, name) => Ok(at(message, name, token)),
-        MethodState::Specialised(message, name, specialiser) => specialised(alloc, message, NewFormal { name, specialiser }, token),
+        MethodState::Specialised(message, name, specialiser) => specialised(
+            alloc,
+            message,
+            NewFormal { name, specialiser },
+            token,
+        ),
         MethodState::Formed(head) => whole_head(alloc, head, token),
     }
 }

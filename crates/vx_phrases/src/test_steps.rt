@@ -6,14 +6,12 @@ ghost use Rattle.vx_bodies.specs.Machine.{IsSmall};
 ghost use Rattle.vx_phrases.specs.TestMachine as spec;
 
 use crate::test_state::{Pending, TestState};
+use crate::words::is_short;
 use sqlite_items::Boxed;
 use std::alloc::{AllocError, Global};
 use vx_bodies::Stack;
 use vx_names::{Name, Operator};
 use vx_syntax::{Compare, Mark, Test, Token};
-
-/// The most bytes in the name of a field.
-const FIELD_BYTES: usize = 60;
 
 fn comparison(operator: Operator) -> Option<Compare>
     ensures { result ≡ comparison operator }
@@ -32,10 +30,10 @@ fn is_field(name: &Name) -> bool
     ensures { result ≡ spec.is_field name.now }
 {
     let bytes = name.bytes();
-    bytes != b"and".as_slice()
-        && bytes != b"or".as_slice()
-        && bytes != b"not".as_slice()
-        && bytes.len() <= FIELD_BYTES
+    let joins = bytes == b"and".as_slice()
+        || bytes == b"or".as_slice()
+        || bytes == b"not".as_slice();
+    !joins && is_short(name)
 }
 
 fn nothing_pending() -> Pending

@@ -8,6 +8,8 @@ mod key;
 mod laws;
 mod print;
 mod test;
+#[cfg(test)]
+mod tests;
 mod token;
 
 pub use count::{height, locals, size};
