@@ -3,6 +3,7 @@
 
 mod bytes;
 mod command;
+mod command_steps;
 mod front;
 mod levels;
 mod number;
