@@ -7,4 +7,3 @@ mod Rows
 mod Steps
 mod Courses
 mod Answered
-mod Depths

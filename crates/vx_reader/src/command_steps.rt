@@ -1,5 +1,7 @@
 //! One token of a command.
-ghost use Rattle.std.specs.Prelude.{◌≡◌, IfOk, is_some, true, Some, true};
+ghost use Rattle.std.specs.Prelude.{◌≡◌, ◌++◌, [], ◌∷◌, IfOk, is_some, true};
+ghost use Rattle.vx_program.specs.Changes.{declared};
+ghost use Rattle.vx_program.specs.declared.edit.Change.TheVariants as change;
 ghost use Rattle.vx_bodies.specs.Machine.{IsSmall};
 ghost use Rattle.vx_phrases.specs.DeclMachine.{decl_finished, decl_step};
 ghost use Rattle.vx_phrases.specs.KeyMachine.{key_finished, key_step};
@@ -167,7 +169,7 @@ fn after_key(
 
 // The changes, and one that declares this.
 fn with_decl(put: bool, mut before: Items<Change>, decl: Decl) -> Result<Items<Change>, AllocError>
-    ensures { IfOk result (λ changes. spec.with_decl put before (Some decl) ≡ Some (Command.Edit (record { changes = changes }))) }
+    ensures { IfOk result (λ changes. changes ≡ before ++ declared put decl ∷ []) }
 {
     if put {
         before.push(Change::Put(decl))?;
@@ -179,8 +181,162 @@ fn with_decl(put: bool, mut before: Items<Change>, decl: Decl) -> Result<Items<C
 
 // The changes, and one that drops this.
 fn with_key(mut before: Items<Change>, key: DeclKey) -> Result<Items<Change>, AllocError>
-    ensures { IfOk result (λ changes. spec.with_key before (Some key) ≡ Some (Command.Edit (record { changes = changes }))) }
+    ensures { IfOk result (λ changes. changes ≡ before ++ change.Drop key ∷ []) }
 {
     before.push(Change::Drop(key))?;
     Ok(before)
+}
+
+// The state after a token in a declaration, or behind it where it is whole.
+fn declaring(
+    alloc: Global,
+    put: bool,
+    before: Items<Change>,
+    state: DeclState,
+    token: Token,
+) -> Result<Option<State>, AllocError>
+    requires { IsSmall token }
+    ensures { IfOk result (λ next. next ≡ spec.declaring (spec.opens token) put before state (decl_finished state) token) }
+{
+    if opens(&token) && decl_may_end(&state) {
+        behind_decl(alloc, put, before, state, token)
+    } else {
+        Ok(in_decl(put, before, decl_step(alloc, state, token)?))
+    }
+}
+
+// The state after a token behind a whole declaration.
+fn behind_decl(
+    alloc: Global,
+    put: bool,
+    before: Items<Change>,
+    state: DeclState,
+    token: Token,
+) -> Result<Option<State>, AllocError>
+    requires small { IsSmall token }
+    requires whole { is_some (decl_finished state) ≡ true }
+    ensures { IfOk result (λ next. next ≡ spec.declaring true put before state (decl_finished state) token) }
+{
+    match decl_finished(alloc, state)? {
+        Some(decl) => {
+            let changes = with_decl(put, before, decl)?;
+            after_decl(alloc, put, changes, token)
+        }
+        None => {
+            drop((before, token));
+            Ok(None)
+        }
+    }
+}
+
+// The state after a token in a key, or behind it where it is whole.
+fn dropping(
+    alloc: Global,
+    before: Items<Change>,
+    state: KeyState,
+    token: Token,
+) -> Result<Option<State>, AllocError>
+    ensures { IfOk result (λ next. next ≡ spec.dropping (spec.opens token) before state (key_finished state) token) }
+{
+    if opens(&token) && key_is_whole(&state) {
+        behind_key(alloc, before, state, token)
+    } else {
+        Ok(in_key(before, key_step(alloc, state, token)?))
+    }
+}
+
+// The state after a token behind a whole key.
+fn behind_key(
+    alloc: Global,
+    before: Items<Change>,
+    state: KeyState,
+    token: Token,
+) -> Result<Option<State>, AllocError>
+    requires { is_some (key_finished state) ≡ true }
+    ensures { IfOk result (λ next. next ≡ spec.dropping true before state (key_finished state) token) }
+{
+    match key_finished(state) {
+        Some(key) => {
+            let changes = with_key(before, key)?;
+            after_key(alloc, changes, token)
+        }
+        None => {
+            drop((before, token));
+            Ok(None)
+        }
+    }
+}
+
+/// The state after a token, if some command goes on with it.
+#[tactic(auto, unfolding(crate::specs::CommandMachine::command_step))]
+pub fn command_step(
+    alloc: Global,
+    state: State,
+    token: Token,
+) -> Result<Option<State>, AllocError>
+    requires { IsSmall token }
+    ensures { IfOk result (λ next. next ≡ spec.command_step state token) }
+{
+    match state {
+        State::Start => Ok(started(alloc, &token)),
+        State::Run => Ok(run_for(&token)),
+        State::Mean => Ok(mean_for(&token)),
+        State::Over(command) => {
+            drop(command);
+            Ok(None)
+        }
+        State::Declaring(put, before, state) => declaring(alloc, put, before, state, token),
+        State::Dropping(before, state) => dropping(alloc, before, state, token),
+    }
+}
+
+// The edit that is whole with a declaration, if it is.
+fn finished_decl(
+    alloc: Global,
+    put: bool,
+    before: Items<Change>,
+    state: DeclState,
+) -> Result<Option<Command>, AllocError>
+    ensures { IfOk result (λ command. command ≡ spec.with_decl put before (decl_finished state)) }
+{
+    match decl_finished(alloc, state)? {
+        Some(decl) => {
+            let changes = with_decl(put, before, decl)?;
+            Ok(Some(Command::Edit(Edit { changes })))
+        }
+        None => {
+            drop(before);
+            Ok(None)
+        }
+    }
+}
+
+// The edit that is whole with a key, if it is.
+fn finished_key(before: Items<Change>, state: KeyState) -> Result<Option<Command>, AllocError>
+    ensures { IfOk result (λ command. command ≡ spec.with_key before (key_finished state)) }
+{
+    match key_finished(state) {
+        Some(key) => {
+            let changes = with_key(before, key)?;
+            Ok(Some(Command::Edit(Edit { changes })))
+        }
+        None => {
+            drop(before);
+            Ok(None)
+        }
+    }
+}
+
+/// The command that is read, where it may end there.
+#[tactic(auto, unfolding(crate::specs::CommandMachine::command_finished))]
+pub fn command_finished(alloc: Global, state: State) -> Result<Option<Command>, AllocError>
+    ensures { IfOk result (λ command. command ≡ spec.command_finished state) }
+{
+    match state {
+        State::Start => Ok(Some(Command::Blank)),
+        State::Run | State::Mean => Ok(None),
+        State::Over(command) => Ok(Some(command)),
+        State::Declaring(put, before, state) => finished_decl(alloc, put, before, state),
+        State::Dropping(before, state) => finished_key(before, state),
+    }
 }

@@ -38,7 +38,6 @@ impl Levels {
     }
 
     // A bracket opens a level.
-    #[tactic(auto, using(crate::proofs::Depths::open_adds))]
     fn open(mut self) -> Result<Levels, AllocError>
         requires adds { Adds self }
         requires low { self.depth ≤ 512 }

@@ -7,6 +7,7 @@ mod command_steps;
 mod front;
 mod levels;
 mod number;
+mod reader;
 mod sign;
 mod spelling;
 mod state;
