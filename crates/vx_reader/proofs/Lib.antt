@@ -7,3 +7,5 @@ mod Rows
 mod Steps
 mod Courses
 mod Answered
+mod GreatNumbers
+mod Readers

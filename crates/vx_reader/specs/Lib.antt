@@ -6,3 +6,4 @@ pub mod CommandMachine
 pub mod CommandRemains
 pub mod Reads
 pub mod OpenLevels
+pub mod Progress

@@ -5,6 +5,7 @@ mod bytes;
 mod command;
 mod command_steps;
 mod front;
+mod laws;
 mod levels;
 mod number;
 mod reader;
@@ -16,5 +17,7 @@ mod token;
 mod tokenizer;
 
 pub use command::{Command, ReadFault};
+pub use laws::{every_block_is_read, great_numbers_are_alike, one_reading};
+pub use reader::read_block;
 pub use token::Placed;
 pub use tokenizer::tokens;

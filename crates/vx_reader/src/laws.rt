@@ -1,0 +1,41 @@
+ghost use Rattle.std.specs.Prelude.{◌≡◌, ◌+◌, ◌<◌, ◌≤◌, ◌^◌, ℕ, List, length, Result, is_none};
+ghost use Rattle.vx_syntax.specs.declared.token.Token.TheVariants.{Number};
+ghost use Rattle.vx_reader.specs.declared.command.Command.{Command};
+ghost use Rattle.vx_reader.specs.declared.command.ReadFault.{ReadFault};
+ghost use Rattle.vx_reader.specs.declared.state.State.{State};
+ghost use Rattle.vx_reader.specs.CommandMachine.{command_step};
+ghost use Rattle.vx_reader.specs.Reads.{Reads, answer};
+
+use vx_phrases::{
+    decl_steps_follow_the_grammar, decls_can_be_finished, decls_end_before_others,
+    key_steps_follow_the_grammar,
+};
+
+/// Each block is read in one way, the reader's answer.
+pub fn every_block_is_read()
+    ensures { (bytes : List ℕ) → length bytes < 2 ^ 64 → Reads bytes (answer bytes) }
+{
+    decl_steps_follow_the_grammar();
+    decls_can_be_finished();
+    decls_end_before_others();
+    key_steps_follow_the_grammar();
+}
+
+/// No block is read in two ways.
+pub fn one_reading()
+    ensures { (bytes : List ℕ) (a b : Result Command ReadFault) → length bytes < 2 ^ 64 → Reads bytes a → Reads bytes b → a ≡ b }
+{
+    decl_steps_follow_the_grammar();
+    decls_can_be_finished();
+    decls_end_before_others();
+    key_steps_follow_the_grammar();
+}
+
+/// Whether a command goes on with a number does not depend on the number, where it is as great as any of the language.
+pub fn great_numbers_are_alike()
+    ensures { (state : State) (i n : ℕ) → 2 ^ 127 ≤ i + 1 → 2 ^ 127 ≤ n + 1 →
+        is_none (command_step state (Number i)) ≡ is_none (command_step state (Number n)) }
+{
+    decl_steps_follow_the_grammar();
+    key_steps_follow_the_grammar();
+}
