@@ -1,7 +1,6 @@
 -- The answer to a block is how it is read, and it is read in no other way.
-use Rattle.std.proofs.Common.{◌≡◌, ℕ, zero, suc, ◌+◌, ◌<◌, ◌≤◌, ◌^◌, Bool, true, false, if◌then◌else◌, ◌⊎◌, inl, inr, List, [], ◌∷◌, ◌++◌, length, take, drop, slice_get, Option, Some, None, Result, Ok, Err, refl, sym, ap, subst, ◌∙◌, arith, append_assoc, append-nil, length-append}
+use Rattle.std.proofs.Common.{◌≡◌, ℕ, zero, suc, ◌+◌, ◌<◌, ◌≤◌, ◌^◌, Bool, true, false, if◌then◌else◌, inl, inr, List, [], ◌∷◌, ◌++◌, length, take, slice_get, Option, Some, None, Result, Ok, Err, refl, sym, ap, subst, ◌∙◌, arith, append_assoc, append-nil, length-append}
 use Rattle.std.proofs.lemmas.Bool.{ltb-true, ltb-false, lt-ltb, le-ltb}
-use Rattle.std.specs.List.{AllByRecursion}
 use Rattle.std.specs.Prelude.{nat_lt}
 use Rattle.vx_syntax.specs.declared.token.Token.{Token}
 use Rattle.vx_syntax.specs.Depth.{max_depth, first_levels, counted, depth, levels_after, IsShallow}
@@ -14,8 +13,7 @@ use Rattle.vx_reader.specs.declared.state.State.TheVariants as st
 use Rattle.vx_reader.specs.Tokens.{placed_tokens, tokens_after, at, front, without_places}
 use Rattle.vx_reader.specs.Commands.{IsCommand, GoesOn}
 use Rattle.vx_reader.specs.CommandMachine.{command_step, command_finished, run_from}
-use Rattle.vx_reader.specs.CommandRemains.{CommandRemains}
-use Rattle.vx_reader.specs.Reads.{is_large, AreSmall, IsStuck, IsFine, IsAt, up_to, IsSyntaxAt, IsWanting, IsTooDeepAt, IsTooLargeAt, Means, AreRead, Reads, ended, reading, answer}
+use Rattle.vx_reader.specs.Reads.{is_large, AreSmall, IsStuck, IsFine, IsAt, up_to, Means, AreRead, Reads, ended, reading, answer}
 use Rattle.vx_reader.proofs.Steps.{Laws, at_end, whole}
 use Rattle.vx_reader.proofs.Courses.{run_means, led, stuck, goes}
 

@@ -1,5 +1,5 @@
 -- Runs of the reader of commands: what they say of the grammar, and that each state can be completed.
-use Rattle.std.proofs.Common.{◌≡◌, ℕ, suc, ◌+◌, ◌<◌, ◌≤◌, ◌^◌, Bool, true, false, if◌then◌else◌, List, [], ◌∷◌, ◌++◌, length, Option, Some, None, refl, sym, ap, subst, ◌∙◌, arith, append-nil}
+use Rattle.std.proofs.Common.{◌≡◌, ℕ, ◌+◌, ◌<◌, ◌≤◌, ◌^◌, Bool, true, false, if◌then◌else◌, List, [], ◌∷◌, ◌++◌, length, Option, Some, None, refl, sym, subst, arith, append-nil}
 use Rattle.std.specs.List.{AllByRecursion}
 use Rattle.std.specs.Prelude.{nat_le}
 use Rattle.std.specs.Str.{bytes_eq}
@@ -14,7 +14,6 @@ use Rattle.vx_syntax.specs.Depth.{changing_words}
 use Rattle.vx_program.specs.declared.edit.Change.{Change}
 use Rattle.vx_program.specs.declared.edit.Change.TheVariants.{Drop}
 use Rattle.vx_program.specs.Changes.{declared}
-use Rattle.vx_phrases.specs.Laws.{Completion}
 use Rattle.vx_phrases.specs.declared.decl_state.DeclState.{DeclState}
 use Rattle.vx_phrases.specs.declared.key_state.KeyState.{KeyState}
 use Rattle.vx_phrases.specs.DeclMachine.{decl_begun, decl_step, decl_finished, names_in}
@@ -27,11 +26,11 @@ use Rattle.vx_reader.specs.declared.command.Command.TheVariants as c
 use Rattle.vx_reader.specs.declared.state.State.{State}
 use Rattle.vx_reader.specs.declared.state.State.TheVariants as st
 use Rattle.vx_reader.specs.Commands.{run_word, mean_word, image_word, why_word, list_word, journal_word, IsCommand, blank, GoesOn}
-use Rattle.vx_reader.specs.CommandMachine.{changing, asking, started, run_for, mean_for, opens, in_decl, in_key, after_decl, after_key, declaring, dropping, command_step, command_finished, run_from}
+use Rattle.vx_reader.specs.CommandMachine.{changing, asking, started, run_for, mean_for, opens, in_decl, in_key, after_decl, after_key, declaring, dropping, command_step, run_from}
 use Rattle.vx_reader.specs.CommandRemains as r
 use Rattle.vx_reader.specs.CommandRemains.{CommandRemains, CommandMoves}
 use Rattle.vx_reader.specs.Reads.{IsStuck}
-use Rattle.vx_reader.proofs.Steps.{Laws, complete, sound, at_end, whole}
+use Rattle.vx_reader.proofs.Steps.{Laws, complete, sound}
 
 -- the run from where a step leads
 abbrev on : Option State → List Token → Option State

@@ -81,24 +81,24 @@ pub none_read : Alike → (s : State) (p : Placed) (levels : List ℕ) → None 
     reading len s levels (p ∷ rest) ≡ Err (f.Syntax p.place)
 none_read alike s p levels is len rest =
     ap (λ o. elim o [
-        | None ↦ Err (f.Syntax p.place)
-        | Some next ↦
-            if nat_lt max_depth (depth (counted levels p.token)) then Err (f.TooDeep p.place) else
-            if is_large p.token then Err (f.NumberTooLarge p.place) else
-            reading len next (counted levels p.token) rest
-      ]) (refused alike s p.token is)
+      | None ↦ Err (f.Syntax p.place)
+      | Some next ↦
+          if nat_lt max_depth (depth (counted levels p.token)) then Err (f.TooDeep p.place) else
+          if is_large p.token then Err (f.NumberTooLarge p.place) else
+          reading len next (counted levels p.token) rest
+    ]) (refused alike s p.token is)
 
 some_read : (s next : State) (p : Placed) (levels : List ℕ) → command_step s p.token ≡ Some next → (len : ℕ) (rest : List Placed) →
     reading len s levels (p ∷ rest) ≡ (if nat_lt max_depth (depth (counted levels p.token)) then Err (f.TooDeep p.place) else
-        if is_large p.token then Err (f.NumberTooLarge p.place) else reading len next (counted levels p.token) rest)
+    if is_large p.token then Err (f.NumberTooLarge p.place) else reading len next (counted levels p.token) rest)
 some_read s next p levels is len rest =
     ap (λ o. elim o [
-        | None ↦ Err (f.Syntax p.place)
-        | Some next ↦
-            if nat_lt max_depth (depth (counted levels p.token)) then Err (f.TooDeep p.place) else
-            if is_large p.token then Err (f.NumberTooLarge p.place) else
-            reading len next (counted levels p.token) rest
-      ]) is
+      | None ↦ Err (f.Syntax p.place)
+      | Some next ↦
+          if nat_lt max_depth (depth (counted levels p.token)) then Err (f.TooDeep p.place) else
+          if is_large p.token then Err (f.NumberTooLarge p.place) else
+          reading len next (counted levels p.token) rest
+    ]) is
 
 if_yes : {X : Type 0} (b : Bool) (x y : X) → b ≡ true → (if b then x else y) ≡ x
 if_yes true x y e = refl

@@ -1,5 +1,5 @@
 -- What the reader's loop keeps, and what follows at each of its ends.
-use Rattle.std.proofs.Common.{◌≡◌, ℕ, suc, ◌+◌, ◌<◌, ◌≤◌, List, [], ◌∷◌, length, drop, Option, Some, None, Result, Ok, Err, refl, sym, ap, subst, ◌∙◌, arith}
+use Rattle.std.proofs.Common.{◌≡◌, ℕ, suc, ◌+◌, ◌<◌, ◌≤◌, List, ◌∷◌, length, drop, Option, Result, Ok, Err, sym, ap, subst, ◌∙◌, arith}
 use Rattle.std.specs.Prelude.{slice_index_or}
 use Rattle.std.proofs.Math.Seq.{drop-cons}
 use Rattle.std.proofs.lemmas.List.{drop_all}
@@ -62,6 +62,7 @@ refused {bytes} {placed} {i} {before} p fault h less is refuses right = by fault
     from : (other : ReadFault) → ((len : ℕ) (rest : List Placed) → reading len before.state (all before.levels) (p ∷ rest) ≡ Err other) → Says bytes (Err other)
     from other same = answered_by bytes (Err other) right
         (h.reads ∙ ap (reading (length bytes) before.state (all before.levels)) (drop_one placed i p less is) ∙ same (length bytes) (drop (i + 1) placed))
+
     by : (other : ReadFault) → Refuses before p other → Says bytes (Err other)
     by (f.Syntax place) same = from (f.Syntax place) same
     by (f.TooDeep place) same = from (f.TooDeep place) same
@@ -72,4 +73,4 @@ pub over : {bytes : List ℕ} {placed : List Placed} {i : ℕ} {progress : Progr
     o ≡ command_finished progress.state → Reads bytes (answer bytes) → Says bytes (ended (length bytes) o)
 over {bytes} {placed} {i} {progress} o h all_read is right =
     answered_by bytes (ended (length bytes) o) right
-        (h.reads ∙ ap (reading (length bytes) progress.state (all progress.levels)) (drop_all i placed all_read) ∙ ap (ended (length bytes)) (sym is))
+    (h.reads ∙ ap (reading (length bytes) progress.state (all progress.levels)) (drop_all i placed all_read) ∙ ap (ended (length bytes)) (sym is))

@@ -1,5 +1,5 @@
 -- The reader of commands, token by token.
-use Rattle.std.specs.Prelude.{ℕ, nat_le, Bool, true, false, if◌then◌else◌, is_some, List, [], ◌∷◌, ◌++◌, Option, Some, None}
+use Rattle.std.specs.Prelude.{nat_le, Bool, true, false, if◌then◌else◌, List, [], ◌∷◌, ◌++◌, Option, Some, None}
 use Rattle.std.specs.Str.{bytes_eq}
 use Rattle.vx_syntax.specs.declared.token.Token.{Token}
 use Rattle.vx_syntax.specs.declared.token.Token.TheVariants as k

@@ -1,5 +1,5 @@
 -- One token more, as the reader goes on with it.
-use Rattle.std.specs.Prelude.{◌≡◌, ℕ, ◌≤◌, ◌^◌, ◌-◌, nat_le, if◌then◌else◌, List, ◌∷◌, Err}
+use Rattle.std.specs.Prelude.{◌≡◌, ℕ, ◌≤◌, ◌^◌, ◌-◌, if◌then◌else◌, List, ◌∷◌, Err}
 use Rattle.vx_syntax.specs.declared.token.Token.{Token}
 use Rattle.vx_syntax.specs.declared.token.Token.TheVariants as k
 use Rattle.vx_reader.specs.declared.token.Placed.{Placed}

@@ -75,9 +75,7 @@ fn run_for(token: &Token) -> Option<State>
     ensures { result ≡ spec.run_for token.now }
 {
     match token {
-        Token::Number(n) if *n <= MOST_RUN as u128 => {
-            Some(State::Over(Command::Run(*n as u32)))
-        }
+        Token::Number(n) if *n <= MOST_RUN as u128 => { Some(State::Over(Command::Run(*n as u32))) }
         _ => None,
     }
 }
@@ -101,11 +99,7 @@ fn opens(token: &Token) -> bool
     match token {
         Token::Word(name) => is_changing(name),
         Token::Keyword(
-            Keyword::Object
-            | Keyword::Predicate
-            | Keyword::Var
-            | Keyword::Field
-            | Keyword::Method,
+            Keyword::Object | Keyword::Predicate | Keyword::Var | Keyword::Field | Keyword::Method,
         ) => true,
         _ => false,
     }
@@ -269,11 +263,7 @@ fn behind_key(
 
 /// The state after a token, if some command goes on with it.
 #[tactic(auto, unfolding(crate::specs::CommandMachine::command_step))]
-pub fn command_step(
-    alloc: Global,
-    state: State,
-    token: Token,
-) -> Result<Option<State>, AllocError>
+pub fn command_step(alloc: Global, state: State, token: Token) -> Result<Option<State>, AllocError>
     requires { IsSmall token }
     ensures { IfOk result (λ next. next ≡ spec.command_step state token) }
 {

@@ -21,3 +21,6 @@ pub use laws::{every_block_is_read, great_numbers_are_alike, one_reading};
 pub use reader::read_block;
 pub use token::Placed;
 pub use tokenizer::tokens;
+
+#[cfg(test)]
+mod tests;

@@ -1,4 +1,4 @@
-use Rattle.std.proofs.Common.{◌≡◌, ◌<◌, ◌≤◌, ◌^◌, length, Some, None, sym, subst, ◌∙◌, arith}
+use Rattle.std.proofs.Common.{Some, None, sym, subst, ◌∙◌, arith}
 use Rattle.vx_reader.specs.Reads.{Says, ended}
 use Rattle.vx_reader.proofs.Readers.{at_start, at_next, refused, over}
 use Rattle.vx_reader.proofs.reader.read_block.Goals as goal
@@ -16,7 +16,7 @@ after-requires-clause-low c = c.loop-placed.invariant.low
 pub returns-in-Err : goal.returns-in-Err
 returns-in-Err c =
     refused c.placed-item.result c.in-Err.fault c.loop-placed.invariant c.loop-placed-test.true c.placed-item.is c.in-Err.ensures.fault
-        (c.every_block_is_read.ensures c.args.bytes.now (omega (arith, c.block_len-len.ensures, c.block_len-len.type_inv)))
+    (c.every_block_is_read.ensures c.args.bytes.now (omega (arith, c.block_len-len.ensures, c.block_len-len.type_inv)))
 
 pub loop-placed-preserved : goal.loop-placed-preserved
 loop-placed-preserved c =
@@ -25,10 +25,10 @@ loop-placed-preserved c =
 pub returns-in-Some : goal.returns-in-Some
 returns-in-Some c =
     over (Some c.in-Some.command) c.loop-placed.invariant (omega (arith, c.loop-placed-test.false)) (sym c.in-Some.is ∙ c.in_ok-command.ensures)
-        (c.every_block_is_read.ensures c.args.bytes.now (omega (arith, c.block_len-len.ensures, c.block_len-len.type_inv)))
+    (c.every_block_is_read.ensures c.args.bytes.now (omega (arith, c.block_len-len.ensures, c.block_len-len.type_inv)))
 
 pub returns : goal.returns
 returns c =
     subst (λ n. Says c.args.bytes.now (ended n None)) (sym c.block_len-len.ensures)
     (over None c.loop-placed.invariant (omega (arith, c.loop-placed-test.false)) (sym c.in-None.is ∙ c.in_ok-command.ensures)
-        (c.every_block_is_read.ensures c.args.bytes.now (omega (arith, c.block_len-len.ensures, c.block_len-len.type_inv))))
+    (c.every_block_is_read.ensures c.args.bytes.now (omega (arith, c.block_len-len.ensures, c.block_len-len.type_inv))))
