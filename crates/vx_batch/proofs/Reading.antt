@@ -1,5 +1,5 @@
 -- Answering what a source gives, piece by piece.
-use Rattle.std.proofs.Common.{◌≡◌, ℕ, ◌+◌, ◌<◌, ◌≤◌, Bool, false, List, [], ◌++◌, length, Option, Some, None, Result, refl, sym, ap, ◌∙◌, subst, append_assoc, length-append, arith, true, inl, inr}
+use Rattle.std.proofs.Common.{◌≡◌, ℕ, ◌^◌, ◌+◌, ◌<◌, ◌≤◌, Bool, false, List, [], ◌++◌, length, Option, Some, None, refl, sym, ap, ◌∙◌, subst, append_assoc, length-append, arith, true, inl, inr}
 use Rattle.std.specs.Option.{IfSome}
 use Rattle.std.specs.List.{concat}
 use Rattle.std.specs.Io.KnownBytes.{Consumes, IsAtEnd}
@@ -7,9 +7,7 @@ use Rattle.std.proofs.lemmas.List.{append-nil}
 use Rattle.vx_syntax.specs.declared.decl.Decl.{Decl}
 use Rattle.vx_program.specs.declared.edit.Edit.{Edit}
 use Rattle.vx_program.specs.Program.{prelude}
-use Rattle.vx_reader.specs.declared.command.Command.{Command}
-use Rattle.vx_reader.specs.declared.command.ReadFault.{ReadFault}
-use Rattle.vx_reader.specs.Reads.{Reads}
+use Rattle.vx_reader.specs.Reads.{Reads, answer}
 use Rattle.vx_blocks.specs.Blocks.{has_end_line}
 use Rattle.vx_batch.specs.declared.pieces.TheConstants.{INPUT_BYTES, PIECE_BYTES}
 use Rattle.vx_batch.specs.Ends.{given, HasEnded, HasAnsweredTaken, HasAnsweredFed, HasReplies, HasFront, HasWholeReplies}
@@ -106,7 +104,7 @@ too_long_sink all later last fed pending piece (Some before) s1 gave within smal
   replies = whole_replies last fed pending before s1 replied none;
 }
 
-module _ (total : (bytes : List ℕ) → (answer : Result Command ReadFault) × Reads bytes answer) where
+module _ (total : (bytes : List ℕ) → length bytes < 2 ^ 64 → Reads bytes (answer bytes)) where
   front_sink : (all : List ℕ) (last : List Edit) (bytes rest more : List ℕ) (s0 s1 : Option (List ℕ)) → HasReplied [] last bytes rest s0 s1 → all ≡ bytes ++ more → IfSome s0 (λ before. (wanting : List ℕ) × HasFront all before s1 wanting)
   front_sink all last bytes rest more None s1 h same = tt
   front_sink all last bytes rest more (Some before) s1 h same = front_replied total last bytes rest more all before s1 h same
@@ -153,7 +151,7 @@ cut_rest (Some all) (Some left) taken program count pending (Some before) s1 s2 
     let same : all ≡ h.fed = h.consumed ∙ (ap (λ z. h.fed ++ z) end ∙ append-nil h.fed) in
     (given_within all (Some left) h.fed taken h.consumed h.taken_is h.within, subst (λ input. (wanting : List ℕ) × (0 < length wanting) × HasFront input before s2 wanting) (sym same) (front_finished h.last h.fed pending before s1 s2 h.replied cut))
 
-module _ (total : (bytes : List ℕ) → (answer : Result Command ReadFault) × Reads bytes answer) where
+module _ (total : (bytes : List ℕ) → length bytes < 2 ^ 64 → Reads bytes (answer bytes)) where
   -- memory ran out before anything was read
   pub nothing_read : (first s0 : Option (List ℕ)) → IfSome first (λ all. (given all first ≤ INPUT_BYTES) × IfSome s0 (λ before. (wanting : List ℕ) × HasFront all before s0 wanting))
   nothing_read None s0 = tt

@@ -1,5 +1,5 @@
 -- Replies to blocks, joined: to some and then to more, whole or in part.
-use Rattle.std.proofs.Common.{◌≡◌, ℕ, ◌<◌, ◌≤◌, List, [], ◌∷◌, ◌++◌, length, Option, Some, None, Result, refl, sym, ap, ◌∙◌, subst, append_assoc, length-append, arith, inl, inr}
+use Rattle.std.proofs.Common.{◌≡◌, ℕ, ◌^◌, ◌<◌, ◌≤◌, List, [], ◌∷◌, ◌++◌, length, Option, Some, None, Result, refl, sym, ap, ◌∙◌, subst, append_assoc, length-append, arith, inl, inr}
 use Rattle.std.specs.Option.{IfSome}
 use Rattle.std.specs.List.{concat}
 use Rattle.std.specs.Io.KnownBytes.{Appends}
@@ -9,7 +9,7 @@ use Rattle.vx_syntax.specs.declared.decl.Decl.{Decl}
 use Rattle.vx_program.specs.declared.edit.Edit.{Edit}
 use Rattle.vx_reader.specs.declared.command.Command.{Command}
 use Rattle.vx_reader.specs.declared.command.ReadFault.{ReadFault}
-use Rattle.vx_reader.specs.Reads.{Reads}
+use Rattle.vx_reader.specs.Reads.{Reads, answer}
 use Rattle.vx_blocks.specs.Blocks.{blocks}
 use Rattle.vx_io.specs.Sink.{AppendsPart}
 use Rattle.vx_blocks.specs.declared.block.TheConstants.{BLOCK_BYTES}
@@ -159,12 +159,12 @@ replies_all : (edits middle last : List Edit) (bytes rest more all : List ℕ) (
 replies_all edits middle last bytes rest more all done ts us h k cut same =
     rw (same, cut) (replies_then edits middle last done (blocks (rest ++ more)) ts us h k)
 
-module _ (total : (bytes : List ℕ) → (answer : Result Command ReadFault) × Reads bytes answer) where
+module _ (total : (bytes : List ℕ) → length bytes < 2 ^ 64 → Reads bytes (answer bytes)) where
   answered_somehow : (edits : List Edit) (block : List ℕ) → (text : List ℕ) × ((next : List Edit) × Answers edits block text next)
   answered_somehow edits block =
       elim (cases_lt BLOCK_BYTES (length block)) [
         | inl long ↦ (too_long_text (length block), (edits, too_long long))
-        | inr short ↦ let a = total block in (reply (after edits) (length edits) a.0, (accepted_with edits a.0, read a.0 short a.1))
+        | inr short ↦ (reply (after edits) (length edits) (answer block), (accepted_with edits (answer block), read (answer block) short (total block (omega (arith, short)))))
       ]
 
   -- any blocks have replies
@@ -235,13 +235,13 @@ front_finished last bytes rest before now end h k =
       },
     )
 
-module _ (one : (bytes : List ℕ) (a b : Result Command ReadFault) → Reads bytes a → Reads bytes b → a ≡ b) where
+module _ (one : (bytes : List ℕ) (a b : Result Command ReadFault) → length bytes < 2 ^ 64 → Reads bytes a → Reads bytes b → a ≡ b) where
   same_answer : (edits next next' : List Edit) (block text text' : List ℕ) → Answers edits block text next → Answers edits block text' next' → (text ≡ text') × (next ≡ next')
   same_answer edits next next' block text text' (too_long long) (too_long long') = (refl, refl)
   same_answer edits next next' block text text' (too_long long) (read a short reads) = absurd (omega arith)
   same_answer edits next next' block text text' (read a short reads) (too_long long) = absurd (omega arith)
   same_answer edits next next' block text text' (read a short reads) (read b short' reads') =
-      let same : a ≡ b = one block a b reads reads' in
+      let same : a ≡ b = one block a b (omega (arith, short)) reads reads' in
       (ap (reply (after edits) (length edits)) same, ap (accepted_with edits) same)
 
   -- two lists of replies to the same blocks are one

@@ -28,6 +28,11 @@ after_edit edits edit (Err fault) e = refl
 after_answer : (edits : List Edit) (answer : Result Command ReadFault) → after (accepted_with edits answer) ≡ program_after (after edits) answer
 after_answer edits (Ok c.Blank) = refl
 after_answer edits (Ok c.Image) = refl
+after_answer edits (Ok c.List) = refl
+after_answer edits (Ok (c.Run n)) = refl
+after_answer edits (Ok (c.Mean n)) = refl
+after_answer edits (Ok c.Why) = refl
+after_answer edits (Ok c.Journal) = refl
 after_answer edits (Ok (c.Edit edit)) = after_edit edits edit (apply (after edits) edit.changes) refl
 after_answer edits (Err fault) = refl
 
@@ -38,6 +43,11 @@ count_edit edits edit (Err fault) = refl
 count_answer : (edits : List Edit) (answer : Result Command ReadFault) → length (accepted_with edits answer) ≡ count_after (after edits) (length edits) answer
 count_answer edits (Ok c.Blank) = refl
 count_answer edits (Ok c.Image) = refl
+count_answer edits (Ok c.List) = refl
+count_answer edits (Ok (c.Run n)) = refl
+count_answer edits (Ok (c.Mean n)) = refl
+count_answer edits (Ok c.Why) = refl
+count_answer edits (Ok c.Journal) = refl
 count_answer edits (Ok (c.Edit edit)) = count_edit edits edit (apply (after edits) edit.changes)
 count_answer edits (Err fault) = refl
 

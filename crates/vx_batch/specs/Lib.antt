@@ -1,5 +1,6 @@
 pub mod Image
 pub mod Text
+pub mod Listing
 pub mod Script
 pub mod Ends
 pub mod Steps

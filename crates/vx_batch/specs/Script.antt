@@ -14,7 +14,8 @@ use Rattle.vx_reader.specs.declared.command.ReadFault.{ReadFault}
 use Rattle.vx_reader.specs.declared.command.ReadFault.TheVariants as r
 use Rattle.vx_reader.specs.Reads.{Reads}
 use Rattle.vx_batch.specs.Image.{image_of}
-use Rattle.vx_batch.specs.Text.{accepted_text, exists_text, unknown_text, syntax_text, not_yet_built_text, image_text, too_long_text}
+use Rattle.vx_batch.specs.Text.{accepted_text, exists_text, unknown_text, syntax_text, too_deep_text, number_too_large_text, not_yet_built_text, image_text, too_long_text}
+use Rattle.vx_batch.specs.Listing.{list_text}
 use Rattle.vx_blocks.specs.declared.block.TheConstants.{BLOCK_BYTES}
 
 -- the program after an edit; one that is refused changes nothing
@@ -42,9 +43,15 @@ edit_reply count (Err f.OutOfMemory) = []
 abbrev pub reply : List Decl → ℕ → Result Command ReadFault → List ℕ
 reply program count (Ok c.Blank) = []
 reply program count (Ok c.Image) = image_text count (image_of program)
+reply program count (Ok c.List) = list_text program
+reply program count (Ok (c.Run n)) = not_yet_built_text
+reply program count (Ok (c.Mean n)) = not_yet_built_text
+reply program count (Ok c.Why) = not_yet_built_text
+reply program count (Ok c.Journal) = not_yet_built_text
 reply program count (Ok (c.Edit edit)) = edit_reply count (apply program edit.changes)
-reply program count (Err r.NotYetBuilt) = not_yet_built_text
-reply program count (Err r.Syntax) = syntax_text
+reply program count (Err (r.Syntax place)) = syntax_text place
+reply program count (Err (r.TooDeep place)) = too_deep_text place
+reply program count (Err (r.NumberTooLarge place)) = number_too_large_text place
 reply program count (Err r.OutOfMemory) = []
 
 -- the accepted edits when a block that is read so was answered

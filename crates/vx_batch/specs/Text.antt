@@ -19,8 +19,17 @@ exists_text key = line (codes "refused exists " ++ key)
 abbrev pub unknown_text : List ℕ → List ℕ
 unknown_text name = line (codes "refused unknown " ++ name)
 
-abbrev pub syntax_text : List ℕ
-syntax_text = line (codes "refused syntax")
+-- no command begins with the tokens up to this place
+abbrev pub syntax_text : ℕ → List ℕ
+syntax_text place = line (codes "refused syntax at " ++ decimal place)
+
+-- the token at this place lies too deep
+abbrev pub too_deep_text : ℕ → List ℕ
+too_deep_text place = line (codes "refused too deep at " ++ decimal place)
+
+-- the number at this place is too large
+abbrev pub number_too_large_text : ℕ → List ℕ
+number_too_large_text place = line (codes "refused number too large at " ++ decimal place)
 
 abbrev pub not_yet_built_text : List ℕ
 not_yet_built_text = line (codes "refused not yet built")

@@ -1,7 +1,8 @@
-//! Answers scripts of commands: edits of a program, and requests for its image.
+//! Answers scripts of commands: edits of a program, and requests for its text and its image.
 #![tactic(auto)]
 
 pub mod image;
+pub mod listing;
 mod pieces;
 mod script;
 mod session;

@@ -4,10 +4,11 @@ ghost use Rattle.vx_batch.specs.Script.{reply, Answers};
 ghost use Rattle.vx_blocks.specs.Block.{IsBlock};
 ghost use Rattle.vx_program.specs.declared.edit.Edit.{Edit};
 ghost use Rattle.vx_batch.specs.Image.{image_of};
+ghost use Rattle.vx_batch.specs.Listing.{list_text};
 ghost use Rattle.vx_batch.specs.Text.{image_text};
 ghost use Rattle.vx_batch.specs.Steps.{IsAnswered, IsEdited, IsRefusal, IsAfter};
 
-use crate::{image, text};
+use crate::{image, listing, text};
 use std::alloc::{AllocError, Global};
 use vx_blocks::Block;
 use vx_program::{Edit, EditFault, Program};
@@ -53,14 +54,21 @@ impl Session {
     {
         let command = match read_block(alloc, block) {
             Ok(command) => command,
-            Err(ReadFault::NotYetBuilt) => return text::refused_not_yet_built(alloc),
-            Err(ReadFault::Syntax) => return text::refused_syntax(alloc),
+            Err(ReadFault::Syntax(place)) => return text::refused_syntax(alloc, place),
+            Err(ReadFault::TooDeep(place)) => return text::refused_too_deep(alloc, place),
+            Err(ReadFault::NumberTooLarge(place)) => {
+                return text::refused_number_too_large(alloc, place);
+            }
             Err(ReadFault::OutOfMemory) => return Err(AllocError),
         };
         match command {
             Command::Blank => Ok(Vec::new(alloc)),
             Command::Edit(edit) => self.edit(alloc, &edit),
             Command::Image => self.image(alloc),
+            Command::List => self.list(alloc),
+            Command::Run(_) | Command::Mean(_) | Command::Why | Command::Journal => {
+                text::refused_not_yet_built(alloc)
+            }
         }
     }
 
@@ -84,6 +92,12 @@ impl Session {
     {
         let image = image::image(alloc, self.program.declarations())?;
         text::image(alloc, self.accepted, image.as_slice())
+    }
+
+    fn list(&self, alloc: Global) -> Result<Vec<u8>, AllocError>
+        ensures { IfOk result (λ text. text.items ≡ list_text self.now.program) }
+    {
+        listing::list(alloc, self.program.declarations())
     }
 }
 

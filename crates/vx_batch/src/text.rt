@@ -1,8 +1,9 @@
 //! The texts of replies.
 
 ghost use Rattle.std.specs.Prelude.{◌≡◌, ◌++◌, IfOk, OnOk};
+ghost use Rattle.std.specs.Fmt.{decimal};
 ghost use Rattle.vx_syntax.specs.Print.{key_text};
-ghost use Rattle.vx_batch.specs.Text.{line, accepted_text, exists_text, unknown_text, syntax_text, not_yet_built_text, image_text, too_long_text, hex_lines};
+ghost use Rattle.vx_batch.specs.Text.{line, accepted_text, exists_text, unknown_text, syntax_text, too_deep_text, number_too_large_text, not_yet_built_text, image_text, too_long_text, hex_lines};
 
 use std::alloc::{AllocError, Global};
 use vx_names::{DeclKey, Name};
@@ -15,11 +16,7 @@ const IMAGE_LINE_BYTES: usize = 32;
 pub fn accepted(alloc: Global, count: u64) -> Result<Vec<u8>, AllocError>
     ensures { IfOk result (λ text. text.items ≡ accepted_text count) }
 {
-    one_line(
-        alloc,
-        b"accepted ",
-        format!(in alloc; "{count}")?.as_bytes(),
-    )
+    numbered(alloc, b"accepted ", count)
 }
 
 /// Refuses an edit that would take a key which is taken.
@@ -37,11 +34,25 @@ pub fn refused_unknown(alloc: Global, name: &Name) -> Result<Vec<u8>, AllocError
     one_line(alloc, b"refused unknown ", name.bytes())
 }
 
-/// Refuses a block that is no edit.
-pub fn refused_syntax(alloc: Global) -> Result<Vec<u8>, AllocError>
-    ensures { IfOk result (λ text. text.items ≡ syntax_text) }
+/// Refuses a block in which no command begins with the tokens up to the one at this place, or which wants tokens there.
+pub fn refused_syntax(alloc: Global, place: u64) -> Result<Vec<u8>, AllocError>
+    ensures { IfOk result (λ text. text.items ≡ syntax_text place) }
 {
-    one_line(alloc, b"refused syntax", b"")
+    numbered(alloc, b"refused syntax at ", place)
+}
+
+/// Refuses a block whose token at this place lies too deep in brackets and operators.
+pub fn refused_too_deep(alloc: Global, place: u64) -> Result<Vec<u8>, AllocError>
+    ensures { IfOk result (λ text. text.items ≡ too_deep_text place) }
+{
+    numbered(alloc, b"refused too deep at ", place)
+}
+
+/// Refuses a block whose number at this place is above those of the language.
+pub fn refused_number_too_large(alloc: Global, place: u64) -> Result<Vec<u8>, AllocError>
+    ensures { IfOk result (λ text. text.items ≡ number_too_large_text place) }
+{
+    numbered(alloc, b"refused number too large at ", place)
 }
 
 /// Refuses what this compiler does not do so far.
@@ -55,11 +66,7 @@ pub fn refused_not_yet_built(alloc: Global) -> Result<Vec<u8>, AllocError>
 pub fn refused_too_long(alloc: Global, len: u64) -> Result<Vec<u8>, AllocError>
     ensures { IfOk result (λ text. text.items ≡ too_long_text len) }
 {
-    one_line(
-        alloc,
-        b"refused block too long ",
-        format!(in alloc; "{len}")?.as_bytes(),
-    )
+    numbered(alloc, b"refused block too long ", len)
 }
 
 /// Shows an image after so many accepted edits.
@@ -90,7 +97,14 @@ fn one_line(alloc: Global, label: &[u8], rest: &[u8]) -> Result<Vec<u8>, AllocEr
     Ok(text)
 }
 
-fn append_line(text: &mut Vec<u8>, label: &[u8], rest: &[u8]) -> Result<(), AllocError>
+fn numbered(alloc: Global, label: &[u8], number: u64) -> Result<Vec<u8>, AllocError>
+    ensures { IfOk result (λ text. text.items ≡ line (label.now ++ decimal number)) }
+{
+    one_line(alloc, label, format!(in alloc; "{number}")?.as_bytes())
+}
+
+/// Appends a line with this label in front.
+pub fn append_line(text: &mut Vec<u8>, label: &[u8], rest: &[u8]) -> Result<(), AllocError>
     ensures { OnOk result (text.new.items ≡ text.old.items ++ line (label.now ++ rest.now)) }
 {
     text.extend_from_slice(label)?;
@@ -116,7 +130,12 @@ mod tests {
                 refused_exists(alloc, &DeclKey::Object(name))?,
                 b"refused exists Ball\n",
             ),
-            (refused_syntax(alloc)?, b"refused syntax\n"),
+            (refused_syntax(alloc, 11)?, b"refused syntax at 11\n"),
+            (refused_too_deep(alloc, 0)?, b"refused too deep at 0\n"),
+            (
+                refused_number_too_large(alloc, 26)?,
+                b"refused number too large at 26\n",
+            ),
             (refused_not_yet_built(alloc)?, b"refused not yet built\n"),
         ] {
             assert_eq!(rt; text.as_slice(), want);

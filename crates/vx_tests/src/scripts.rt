@@ -6,14 +6,14 @@ use vx_io::{MemSink, MemSource};
 // How a script is read and written: the most bytes of a read and of a write, and the number of the
 // read and of the write that fails, if one is to fail.
 #[derive(Drop)]
-struct Way {
+pub struct Way {
     read: usize,
     write: usize,
     failed_read: Option<u64>,
     failed_write: Option<u64>,
 }
 
-const AT_ONCE: Way = Way {
+pub const AT_ONCE: Way = Way {
     read: 1 << 20,
     write: 1 << 20,
     failed_read: None,
@@ -29,7 +29,12 @@ fn listed(alloc: Global, number: Option<u64>) -> Result<Vec<u64>, Fail> {
 }
 
 // The status of a script that is run so, and what it wrote.
-fn run(alloc: Global, words: &[String], script: &[u8], way: &Way) -> Result<(u8, Vec<u8>), Fail> {
+pub fn run(
+    alloc: Global,
+    words: &[String],
+    script: &[u8],
+    way: &Way,
+) -> Result<(u8, Vec<u8>), Fail> {
     let script = script.to_vec(alloc)?;
     let mut source = MemSource::new(script, way.read.max(1), listed(alloc, way.failed_read)?);
     let failing = listed(alloc, way.failed_write)?;
@@ -54,10 +59,31 @@ fn each_block_has_its_reply(rt: HostRuntime) -> Result<(), Fail> {
         ),
         (
             "add object a\n.\nadd object a object b\n.\nadd object b isa zed\n.\nadd a\n.\nlist\n.\nimage\n.",
-            "accepted 1\nrefused exists a\nrefused unknown zed\nrefused syntax\nrefused not yet built\nimage 1 19\n: 56584943000000000101610000000103616e79\n",
+            "accepted 1\nrefused exists a\nrefused unknown zed\nrefused syntax at 4\n| object a\n= list 1\nimage 1 19\n: 56584943000000000101610000000103616e79\n",
         ),
         (" \n.\n\t\r\n.\n", ""),
-        ("-- add\n.\nadd object a\n.\n", "refused not yet built\naccepted 1\n"),
+        ("-- add\n.\nadd object a\n.\n", "accepted 1\n"),
+        (
+            "add object a object b isa a\n.\nlist",
+            "accepted 1\n| object a\n| object b isa a\n= list 2\n",
+        ),
+        ("list", "= list 0\n"),
+        (
+            "add object a object b object c isa zed\n.\nlist",
+            "refused unknown zed\n= list 0\n",
+        ),
+        (
+            "put method main() { print(170141183460469231731687303715884105728) }\n.\nadd object 9",
+            "refused number too large at 26\nrefused syntax at 11\n",
+        ),
+        (
+            "add method main() { print(\"hi\") }\n.\nrun 100\n.\nmean 5\n.\nwhy\n.\njournal\n.\ndrop object a\n.\nadd object a method f() { } object zed isa q",
+            "refused not yet built\nrefused not yet built\nrefused not yet built\nrefused not yet built\nrefused not yet built\nrefused not yet built\nrefused not yet built\n",
+        ),
+        (
+            "add object a isa zed method f() { }",
+            "refused unknown zed\n",
+        ),
     ] {
         let (status, written) = run(alloc, &[], script.as_bytes(), &AT_ONCE)?;
         assert_eq!(rt; status, 0, "{script}");
@@ -124,10 +150,7 @@ fn long_blocks_are_passed_over(rt: HostRuntime) -> Result<(), Fail> {
         let mut sink = MemSink::new(alloc, 4096, 4096, Vec::new(alloc))?;
         assert_eq!(rt; batch_top(alloc, &[], &mut source, &mut sink), 0);
         assert!(rt; sink.taken().starts_with(reply.as_bytes()));
-        assert!(rt;
-            sink.taken()
-                .ends_with(b"\nrefused not yet built\nrefused syntax\n")
-        );
+        assert!(rt; sink.taken().ends_with(b"\nrefused syntax at 6\n"));
     }
     Ok(())
 }
