@@ -138,3 +138,22 @@ fn names_end_at_their_bytes(rt: HostRuntime) -> Result<(), Fail> {
     }
     Ok(())
 }
+
+#[test]
+fn bytes_that_are_no_tokens(rt: HostRuntime) -> Result<(), Fail> {
+    let alloc = rt.alloc();
+    for (block, reply) in [
+        (b"list\xc8".as_slice(), "refused syntax at 4\n"),
+        (b"\x00", "refused syntax at 0\n"),
+        (b"add object a -- \xc8", "accepted 1\n"),
+        (b"add method m() { \"a", "refused syntax at 17\n"),
+        (b"add method m() { \"\\n\" }", "refused syntax at 17\n"),
+        (b"add object a,", "refused syntax at 12\n"),
+        (b".\n", ""),
+    ] {
+        let (status, written) = run(alloc, &[], block, &AT_ONCE)?;
+        assert_eq!(rt; status, 0);
+        assert_eq!(rt; written.as_slice(), reply.as_bytes(), "{reply}");
+    }
+    Ok(())
+}

@@ -137,20 +137,20 @@ fn cutting_and_faults(rt: HostRuntime) -> Result<(), Fail> {
 #[test]
 fn long_blocks_are_passed_over(rt: HostRuntime) -> Result<(), Fail> {
     let alloc = rt.alloc();
-    for (blanks, reply) in [
-        (1_048_563, "accepted 1\n"),
-        (1_048_564, "refused block too long 1048577\n"),
+    for (blanks, reply, list) in [
+        (1_048_563, "accepted 1\n", "| object a\n= list 1\n"),
+        (1_048_564, "refused block too long 1048577\n", "= list 0\n"),
     ] {
         let mut script = b"add object a".as_slice().to_vec(alloc)?;
         for _ in 0..blanks {
             script.push(b' ')?;
         }
-        script.extend_from_slice(b"\n.\nadd object b isa a\n.\n-- a comment\n.\nimage zed")?;
+        script.extend_from_slice(b"\n.\n-- a comment\n.\nimage zed\n.\nlist")?;
         let mut source = MemSource::new(script, 4096, Vec::new(alloc));
         let mut sink = MemSink::new(alloc, 4096, 4096, Vec::new(alloc))?;
         assert_eq!(rt; batch_top(alloc, &[], &mut source, &mut sink), 0);
         assert!(rt; sink.taken().starts_with(reply.as_bytes()));
-        assert!(rt; sink.taken().ends_with(b"\nrefused syntax at 6\n"));
+        assert!(rt; sink.taken().ends_with(list.as_bytes()));
     }
     Ok(())
 }
@@ -168,5 +168,20 @@ fn input_ends_at_the_limit(rt: HostRuntime) -> Result<(), Fail> {
         assert_eq!(rt; batch_top(alloc, &[], &mut source, &mut sink), status);
         assert_eq!(rt; sink.taken(), reply.as_bytes());
     }
+    Ok(())
+}
+
+#[test]
+fn a_read_fails_behind_a_whole_block(rt: HostRuntime) -> Result<(), Fail> {
+    let alloc = rt.alloc();
+    let way = Way {
+        read: 7,
+        write: 64,
+        failed_read: Some(1),
+        failed_write: None,
+    };
+    let (status, written) = run(alloc, &[], b"list\n.\nlist", &way)?;
+    assert_eq!(rt; status, 2);
+    assert_eq!(rt; written.as_slice(), b"= list 0\n".as_slice());
     Ok(())
 }
