@@ -1,0 +1,18 @@
+# What both measures share: the program, a folder to work in, and the time of a script. Sourced, not run.
+top=$(cd "$(dirname "${BASH_SOURCE[0]}")/.." && pwd)
+"$top/run-script.sh" </dev/null
+program=$top/crates/vortex_batch/out/vortex_batch
+work=$(mktemp -d)
+trap 'rm -rf "$work"' EXIT
+
+# The least milliseconds of three runs of "$work/script"; its replies stay in "$work/replies".
+least() {
+    best=
+    for _ in 1 2 3; do
+        begun=$(date +%s%N)
+        "$program" <"$work/script" >"$work/replies"
+        spent=$(( ($(date +%s%N) - begun) / 1000000 ))
+        if [ -z "$best" ] || [ "$spent" -lt "$best" ]; then best=$spent; fi
+    done
+    echo "$best"
+}
