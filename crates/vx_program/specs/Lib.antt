@@ -1,3 +1,4 @@
+pub mod Prelude
 pub mod Program
 pub mod Apply
 pub mod Changes

@@ -3,7 +3,8 @@
 
 mod edit;
 mod key;
-mod program;
+mod limits;
+mod lookup;
 
-pub use edit::{Change, Edit, EditFault};
-pub use program::Program;
+pub use edit::{Change, Counted, Edit, EditFault};
+pub use limits::{MAX_DECLARATIONS, MAX_DEPTH, MAX_LOCALS, MAX_METHODS};

@@ -1,0 +1,117 @@
+//! Declarations by their names and keys.
+ghost use Rattle.std.specs.Prelude.{◌≡◌, ◌≤◌, length, insert};
+ghost use Rattle.std.specs.Option.{option_copied};
+ghost use Rattle.vx_syntax.specs.declared.decl.Decl.{Decl};
+ghost use Rattle.vx_syntax.specs.Keys.{key_of};
+ghost use Rattle.vx_program.specs.Program.{find, is_named, is_predicate, is_there, is_predicate_there, is_name_of, mentioned, parents_of};
+ghost use Rattle.vx_program.specs.Apply.{with_decl};
+
+use crate::key::compare;
+
+use std::cmp::Ordering;
+use vx_names::{DeclKey, Name};
+use vx_syntax::Decl;
+
+/// The declaration that has the key.
+pub fn find<'a>(decls: &'a [Decl], key: &DeclKey) -> Option<&'a Decl>
+    ensures { option_copied result ≡ find decls.now key.now }
+{
+    for decl in decls {
+        if compare(decl, key) == Ordering::Equal {
+            return Some(decl);
+        }
+    }
+    None
+}
+
+/// Whether the declaration is an object or a predicate of the name.
+pub fn is_named(decl: &Decl, x: &Name) -> bool
+    ensures { result ≡ is_named x.now decl.now }
+{
+    match decl {
+        Decl::Object { name, .. } => name.bytes() == x.bytes(),
+        Decl::Predicate { name, .. } => name.bytes() == x.bytes(),
+        _ => false,
+    }
+}
+
+/// Whether there is an object or a predicate of the name.
+pub fn is_there(decls: &[Decl], x: &Name) -> bool
+    ensures { result ≡ is_there decls.now x.now }
+{
+    for decl in decls {
+        if is_named(decl, x) {
+            return true;
+        }
+    }
+    false
+}
+
+/// Whether there is a predicate of the name.
+pub fn is_predicate_there(decls: &[Decl], x: &Name) -> bool
+    ensures { result ≡ is_predicate_there decls.now x.now }
+{
+    for decl in decls {
+        if is_predicate(decl) && is_named(decl, x) {
+            return true;
+        }
+    }
+    false
+}
+
+fn is_predicate(decl: &Decl) -> bool
+    ensures { result ≡ is_predicate decl.now }
+{
+    match decl {
+        Decl::Predicate { .. } => true,
+        _ => false,
+    }
+}
+
+/// Whether the name is one of these.
+pub fn is_name_of(names: &[Name], x: &Name) -> bool
+    ensures { result ≡ is_name_of names.now x.now }
+{
+    for name in names {
+        if name.bytes() == x.bytes() {
+            return true;
+        }
+    }
+    false
+}
+
+/// The objects that an object or a predicate inherits from.
+pub fn parents_of(decl: &Decl) -> &[Name]
+    ensures { result.now ≡ parents_of decl.now }
+{
+    match decl {
+        Decl::Object { parents, .. } => parents.as_slice(),
+        Decl::Predicate { parents, .. } => parents.as_slice(),
+        _ => &[],
+    }
+}
+
+/// The objects that a declaration names outside of bodies and tests.
+pub fn mentioned(decl: &Decl) -> &[Name]
+    ensures { result.now ≡ mentioned decl.now }
+{
+    match decl {
+        Decl::Object { parents, .. } => parents.as_slice(),
+        Decl::Predicate { parents, .. } => parents.as_slice(),
+        Decl::Field { key, .. } => std::slice::from_ref(&key.specialiser),
+        Decl::Method { key, .. } => key.specialisers.as_slice(),
+    }
+}
+
+/// Where the first declaration of a key stands, or where one would, in key order.
+pub fn place_of(decls: &[Decl], key: &DeclKey) -> usize
+    ensures within { result ≤ length decls.now }
+    ensures place { (new : Decl) → key_of new ≡ key.now → with_decl decls.now new ≡ insert decls.now result new }
+{
+    for (place, decl) in decls.iter().enumerate() {
+        if compare(decl, key) != Ordering::Less {
+            return place;
+        }
+    }
+    decls.len()
+}
