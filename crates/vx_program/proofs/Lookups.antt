@@ -1,8 +1,15 @@
--- The place of a declaration, as far as it was sought.
-use Rattle.std.proofs.Common.{ℕ, List, ◌++◌, take, drop}
+-- The prelude by its parts, and the place of a declaration, as far as it was sought.
+use Rattle.std.proofs.Common.{◌≡◌, ℕ, List, [], ◌∷◌, ◌++◌, take, drop, refl}
 use Rattle.vx_syntax.specs.declared.decl.Decl.{Decl}
+use Rattle.vx_syntax.specs.declared.decl.Decl.TheVariants as d
+use Rattle.vx_syntax.specs.Declarations.{any}
+use Rattle.vx_program.specs.Prelude.{first_objects, last_objects, comparisons, logic, prelude}
 use Rattle.vx_program.specs.Apply.{with_decl}
 
 -- the declarations that go before the new one, and then the rest with it
 abbrev pub joined : List Decl → ℕ → Decl → List Decl
 joined decls i new = take i decls ++ with_decl (drop i decls) new
+
+pub prelude_is : (d.Object any [] ∷ first_objects ++ last_objects) ++ comparisons ++ logic ≡ prelude
+unfolding prelude
+prelude_is = refl

@@ -117,17 +117,17 @@ methods_fault program (key ∷ keys) = methods_fault program keys
 abbrev pub limit_fault : List Decl → Decl → Option EditFault
 limit_fault next decl =
     or_else (over Declarations MAX_DECLARATIONS (declared next)) (or_else (methods_fault next (occupied decl))
-        (or_else (over Locals MAX_LOCALS (capped (locals decl))) (over Depth MAX_DEPTH (capped (height decl)))))
+    (or_else (over Locals MAX_LOCALS (capped (locals decl))) (over Depth MAX_DEPTH (capped (height decl)))))
 
 -- The fault of a change, if it has one, in the order in which faults are tried.
 abbrev pub fault_of : List Decl → Change → Option EditFault
 fault_of program (Add decl) =
     or_else (reserved_fault (key_of decl)) (or_else (exists_fault program (occupied decl)) (or_else (unknown_fault program (mentioned decl))
-        (or_else (wrong_kind_fault program decl (mentioned decl)) (limit_fault (with_decl program decl) decl))))
+    (or_else (wrong_kind_fault program decl (mentioned decl)) (limit_fault (with_decl program decl) decl))))
 fault_of program (Put decl) =
     or_else (reserved_fault (key_of decl)) (or_else (exists_fault program (gained (find program (key_of decl)) decl))
-        (or_else (missing_fault program (key_of decl)) (or_else (unknown_fault program (mentioned decl))
-            (or_else (wrong_kind_fault program decl (mentioned decl)) (or_else (cycle_fault program decl) (limit_fault (replaced program decl) decl))))))
+    (or_else (missing_fault program (key_of decl)) (or_else (unknown_fault program (mentioned decl))
+    (or_else (wrong_kind_fault program decl (mentioned decl)) (or_else (cycle_fault program decl) (limit_fault (replaced program decl) decl))))))
 fault_of program (Drop key) = or_else (reserved_fault key) (or_else (missing_fault program key) (in_use_fault program key))
 
 -- The change is made where it has no fault.

@@ -34,21 +34,22 @@ sent_to_two x a b = e.Send (record { name = x; arity = 2 }) (a ∷ b ∷ [])
 abbrev pub answering : Bytes → List Bytes → List Bytes → Expr → Decl
 answering x formals specialisers a = method_of x (map Some formals) specialisers (t.Do a ∷ [])
 
--- The objects, in key order.
-abbrev pub prelude_objects : List Decl
-prelude_objects =
-    d.Object any [] ∷ child (codes "bool") any ∷ child (codes "closure") any ∷ child (codes "false") (codes "bool") ∷ child (codes "int") any ∷
-    child (codes "nil") any ∷ child (codes "string") any ∷ child (codes "true") (codes "bool") ∷ []
+-- The objects besides `any` in key order, in two halves.
+abbrev pub first_objects : List Decl
+first_objects = child (codes "bool") any ∷ child (codes "closure") any ∷ child (codes "false") (codes "bool") ∷ []
+
+abbrev pub last_objects : List Decl
+last_objects = child (codes "int") any ∷ child (codes "nil") any ∷ child (codes "string") any ∷ child (codes "true") (codes "bool") ∷ []
 
 -- comparisons of integers by the primitive `<`: `a <= b`, `a > b` and `a >= b`
 abbrev pub comparisons : List Decl
 comparisons =
     answering (codes "<=") (codes "a" ∷ codes "b" ∷ []) (codes "int" ∷ codes "int" ∷ [])
-        (sent (codes "not") (sent_to_two (codes "<") (e.Name (codes "b")) (e.Name (codes "a")))) ∷
+    (sent (codes "not") (sent_to_two (codes "<") (e.Name (codes "b")) (e.Name (codes "a")))) ∷
     answering (codes ">") (codes "a" ∷ codes "b" ∷ []) (codes "int" ∷ codes "int" ∷ [])
-        (sent_to_two (codes "<") (e.Name (codes "b")) (e.Name (codes "a"))) ∷
+    (sent_to_two (codes "<") (e.Name (codes "b")) (e.Name (codes "a"))) ∷
     answering (codes ">=") (codes "a" ∷ codes "b" ∷ []) (codes "int" ∷ codes "int" ∷ [])
-        (sent (codes "not") (sent_to_two (codes "<") (e.Name (codes "a")) (e.Name (codes "b")))) ∷ []
+    (sent (codes "not") (sent_to_two (codes "<") (e.Name (codes "a")) (e.Name (codes "b")))) ∷ []
 
 -- `and`: its second argument is a closure, evaluated where the first is true
 abbrev pub conjunctions : List Decl
@@ -75,9 +76,13 @@ disjunctions =
     answering (codes "or") (codes "a" ∷ codes "b" ∷ []) (codes "false" ∷ any ∷ []) (sent (codes "eval") (e.Name (codes "b"))) ∷
     answering (codes "or") (codes "a" ∷ codes "b" ∷ []) (codes "true" ∷ any ∷ []) (e.Name (codes "true")) ∷ []
 
+-- the methods of booleans, in key order
+abbrev pub logic : List Decl
+logic = conjunctions ++ choices ++ negations ++ disjunctions
+
 -- The prelude, in key order.
 unfoldable pub prelude : List Decl
-prelude = prelude_objects ++ comparisons ++ conjunctions ++ choices ++ negations ++ disjunctions
+prelude = (d.Object any [] ∷ first_objects ++ last_objects) ++ comparisons ++ logic
 
 -- a key of two integers, and of two strings
 abbrev pub of_integers : Bytes → MethodKey

@@ -7,7 +7,6 @@ ghost use Rattle.vx_program.specs.Program.{find, is_named, is_predicate, is_ther
 ghost use Rattle.vx_program.specs.Apply.{with_decl};
 
 use crate::key::compare;
-
 use std::cmp::Ordering;
 use vx_names::{DeclKey, Name};
 use vx_syntax::Decl;
