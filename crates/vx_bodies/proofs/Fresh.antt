@@ -8,7 +8,7 @@ use Rattle.vx_names.specs.Bytes.{is_letter, is_word_byte}
 use Rattle.vx_names.specs.Name.{IsIdentifier}
 use Rattle.vx_syntax.specs.declared.token.Keyword.{Keyword}
 use Rattle.vx_syntax.specs.Words.{keyword, IsWord}
-use Rattle.vx_syntax.specs.Expressions.{Bytes, Scope, is_bound, is_among}
+use Rattle.vx_syntax.specs.Expressions.{Bytes, Scope, is_bound, is_among, max_field_bytes}
 
 abbrev tail_by : (b : Bool) → Bytes → List Bytes → List Bytes
 tail_by true x xs = x ∷ xs
@@ -129,7 +129,7 @@ not_reserved x long =
 -- a word that is none of the names
 pub record IsFresh (ys : List Bytes) (x : Bytes) : Type 0 where
   pub word : IsWord x
-  pub short : length x ≤ 60
+  pub short : length x ≤ max_field_bytes
   pub new : is_among ys x ≡ false
 
 pub fresh_word : (ys : List Bytes) → length ys < 2 ^ 64 → (x : Bytes) × IsFresh ys x

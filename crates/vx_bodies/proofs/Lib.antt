@@ -5,3 +5,4 @@ mod Counts
 mod Finish
 mod Ends
 mod Scopes
+mod Index

@@ -24,23 +24,6 @@ variable_is (d ∷ scope) x = by (bytes_eq d.0 x) d.1 (variable_is scope x)
     by true false h = h
     by false flag h = h
 
-listed_suc : (v : Bool) (i : ℕ) (scope : Scope) (x : Bytes) (d : Bytes × Bool) → slice_get scope i ≡ Some d →
-    is_listed v (drop i scope) x ≡ (bytes_eq d.0 x && (d.1 || not v) || is_listed v (drop (suc i) scope) x)
-listed_suc v i [] x d e = absurd cc
-listed_suc v zero (c ∷ scope) x d e = let f : c ≡ d = cc in ap (λ y. bytes_eq y.0 x && (y.1 || not v) || is_listed v scope x) f
-listed_suc v (suc i) (c ∷ scope) x d e = listed_suc v i scope x d e
-
--- from the name at i on
-pub listed_at : (v : Bool) (i : ℕ) (scope : Scope) (x : Bytes) (d : Bytes × Bool) → slice_get scope i ≡ Some d →
-    is_listed v (drop i scope) x ≡ (bytes_eq d.0 x && (d.1 || not v) || is_listed v (drop (i + 1) scope) x)
-listed_at v i scope x d e = rw add-one (listed_suc v i scope x d e)
-
-pub listed_past : (v : Bool) (i : ℕ) (scope : Scope) (x : Bytes) → length scope ≤ i → is_listed v (drop i scope) x ≡ false
-listed_past v zero [] x h = refl
-listed_past v (suc i) [] x h = refl
-listed_past v zero (d ∷ scope) x h = absurd (omega arith)
-listed_past v (suc i) (d ∷ scope) x h = listed_past v i scope x (omega arith)
-
 pub listed_append : (v : Bool) (a b : Scope) (x : Bytes) → is_listed v (a ++ b) x ≡ (is_listed v a x || is_listed v b x)
 listed_append v [] b x = refl
 listed_append v (d ∷ a) b x = by (bytes_eq d.0 x && (d.1 || not v)) (listed_append v a b x)

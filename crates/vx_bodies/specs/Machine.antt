@@ -1,6 +1,6 @@
 -- The machine that reads a body, token by token: it starts after the `{` that opens it, and is done at the `}` that
 -- closes it.
-use Rattle.std.specs.Prelude.{pos, neg_ℤ, ◌+◌, ◌<◌, ◌^◌, nat_lt, Bool, true, false, if◌then◌else◌, List, [], ◌∷◌, ◌++◌, length, map, Option, Some, None}
+use Rattle.std.specs.Prelude.{◌≡◌, pos, neg_ℤ, ◌+◌, nat_lt, Bool, true, false, if◌then◌else◌, List, [], ◌∷◌, ◌++◌, length, map, Option, Some, None}
 use Rattle.vx_names.specs.declared.operator.Operator.{Operator}
 use Rattle.vx_names.specs.declared.operator.Operator.TheVariants as o
 use Rattle.vx_syntax.specs.declared.token.Token.{Token}
@@ -11,6 +11,7 @@ use Rattle.vx_syntax.specs.declared.expr.Expr.{Expr}
 use Rattle.vx_syntax.specs.declared.expr.Expr.TheVariants as e
 use Rattle.vx_syntax.specs.declared.expr.Stmt.{Stmt}
 use Rattle.vx_syntax.specs.declared.expr.Stmt.TheVariants as t
+use Rattle.vx_syntax.specs.Words.{is_large}
 use Rattle.vx_syntax.specs.Expressions as g
 use Rattle.vx_syntax.specs.Expressions.{Bytes, Scope, level, is_bound, is_variable, is_among, operation, is_back, brings, with_formals, max_arguments, max_closure_formals, max_field_bytes, field_names}
 use Rattle.vx_bodies.specs.declared.state.Left.{Left}
@@ -31,7 +32,7 @@ use Rattle.vx_bodies.specs.declared.state.Next.TheVariants.{Stuck, On, Done}
 
 -- a number that an expression can hold
 abbrev pub IsSmall : Token → Type 0
-IsSmall (k.Number n) = n < 2 ^ 127
+IsSmall (k.Number n) = is_large n ≡ false
 IsSmall _ = Unit {0}
 
 abbrev pub no_pending : Pending

@@ -4,6 +4,7 @@ ghost use Rattle.vx_syntax.specs.Expressions.{is_back, brings, max_arguments};
 ghost use Rattle.vx_bodies.specs.Machine as spec;
 
 use crate::arguments::Arguments;
+use crate::declared::Declared;
 use crate::operators::{no_pending, operated, sent, value};
 use crate::stack::Stack;
 use crate::state::{Block, Bracket, Kind, Level, Next, Part, Pending, State, Within};
@@ -69,17 +70,14 @@ fn is_back(a: &Stmt) -> bool
     }
 }
 
-type Declared = Stack<(Name, bool)>;
-
-fn brought(alloc: Global, mut declared: Declared, a: &Stmt) -> Result<Declared, AllocError>
+fn brought(alloc: Global, declared: Declared, a: &Stmt) -> Result<Declared, AllocError>
     ensures { IfOk result (λ d. d ≡ brings declared a.now) }
 {
     match a {
-        Stmt::Let(x, _) => declared.push((x.copy(alloc)?, false))?,
-        Stmt::LetVar(x, _) => declared.push((x.copy(alloc)?, true))?,
-        _ => {}
+        Stmt::Let(x, _) => declared.with(alloc, x.copy(alloc)?, false),
+        Stmt::LetVar(x, _) => declared.with(alloc, x.copy(alloc)?, true),
+        _ => Ok(declared),
     }
-    Ok(declared)
 }
 
 fn with_statement(alloc: Global, block: Block, a: Stmt) -> Result<Block, AllocError>

@@ -17,7 +17,7 @@ const MAX_FORMALS: usize = 4;
 fn formal(given: Items<Name>, x: Name, pending: Pending, within: Within) -> Next
     ensures { result ≡ spec.formal given x pending within }
 {
-    if is_bound_after(given.as_slice(), &within.block, x.bytes()) {
+    if is_bound_after(given.as_slice(), &within.block, &x) {
         stuck((given, x, pending, within))
     } else {
         Next::On(State::Inside(Part::Formed(given, x), pending, within))

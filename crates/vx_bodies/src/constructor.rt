@@ -7,10 +7,8 @@ use crate::scope::is_field;
 use crate::state::{Bracket, Next, Part, Pending, State, Within};
 use sqlite_items::Items;
 use std::alloc::{AllocError, Global};
-use vx_names::Name;
+use vx_names::{FIELD_NAME_BYTES, Name};
 use vx_syntax::{Expr, Keyword, Mark, Token};
-
-const MAX_FIELD_BYTES: usize = 60;
 
 type Fields = Items<(Name, Expr)>;
 
@@ -67,7 +65,7 @@ pub fn parent(
 fn field(parent: Name, given: Fields, f: Name, pending: Pending, within: Within) -> Next
     ensures { result ≡ spec.field parent given f pending within }
 {
-    if f.bytes().len() > MAX_FIELD_BYTES || is_field(given.as_slice(), f.bytes()) {
+    if f.bytes().len() > FIELD_NAME_BYTES || is_field(given.as_slice(), f.bytes()) {
         stuck((parent, given, f, pending, within))
     } else {
         Next::On(State::Inside(Part::FieldName(parent, given, f), pending, within))

@@ -5,6 +5,7 @@ mod after;
 mod arguments;
 mod closure;
 mod constructor;
+mod declared;
 mod laws;
 mod machine;
 mod operand;
@@ -15,6 +16,7 @@ mod state;
 mod statement;
 
 pub use arguments::Arguments;
+pub use declared::Declared;
 pub use laws::{
     bodies_begin, names_come_singly, numbers_are_alike, states_can_be_finished,
     steps_follow_the_grammar,

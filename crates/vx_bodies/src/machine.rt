@@ -7,6 +7,7 @@ ghost use Rattle.vx_bodies.specs.Machine.{IsSmall};
 use crate::after::after_operand;
 use crate::closure::{ampersand, first_formal, formals, formed, next_formal};
 use crate::constructor::{Named, field_name, first_field, isa, next_field, object, parent};
+use crate::declared::Declared;
 use crate::operand::{called, first_argument, operand, resend, resend_dots, resend_open, signed};
 use crate::stack::Stack;
 use crate::state::{Block, Next, Part, Pending, State, Within};
@@ -16,13 +17,13 @@ use std::alloc::{AllocError, Global};
 use vx_names::Name;
 use vx_syntax::Token;
 
-fn declared(alloc: Global, formals: &[Option<Name>]) -> Result<Stack<(Name, bool)>, AllocError>
+fn declared(alloc: Global, formals: &[Option<Name>]) -> Result<Declared, AllocError>
     ensures { IfOk result (λ declared. declared ≡ formal_scope formals.now) }
 {
-    let mut declared = Stack::new(alloc);
+    let mut declared = Declared::new(alloc);
     for formal in formals {
         if let Some(name) = formal {
-            declared.push((name.copy(alloc)?, false))?;
+            declared = declared.with(alloc, name.copy(alloc)?, false)?;
         }
     }
     Ok(declared)

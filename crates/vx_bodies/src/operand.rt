@@ -5,6 +5,7 @@ ghost use Rattle.vx_bodies.specs.Machine.{IsSmall};
 
 use crate::after::{after_operand, bracketed, stuck};
 use crate::arguments::Arguments;
+use crate::declared::Declared;
 use crate::operators::{no_pending, sent};
 use crate::stack::Stack;
 use crate::state::{Block, Bracket, Level, Next, Part, Pending, State, Within};
@@ -56,7 +57,7 @@ pub fn opened(
     })?;
     Ok(Next::On(State::Statement(Block {
         levels,
-        declared: Stack::new(alloc),
+        declared: Declared::new(alloc),
         statements: Items::new(alloc),
     })))
 }

@@ -1,29 +1,18 @@
 //! What operands and operators make.
 ghost use Rattle.std.specs.Prelude.{◌≡◌, ◌≤◌, length, IfOk};
-ghost use Rattle.vx_names.specs.Operator.{spelling};
 ghost use Rattle.vx_syntax.specs.Expressions.{comparing, adding, multiplying, level, operation, max_arguments};
 ghost use Rattle.vx_bodies.specs.Machine as spec;
 
 use crate::state::{Left, Pending};
 use sqlite_items::Items;
 use std::alloc::{AllocError, Global};
-use vx_names::{Name, Operator, Selector};
+use vx_names::{Name, Operator, Selector, name_of};
 use vx_syntax::Expr;
-
-fn name(alloc: Global, operator: Operator) -> Result<Name, AllocError>
-    ensures { IfOk result (λ name. name ≡ spelling operator) }
-{
-    match Name::new(alloc, operator.bytes()) {
-        Ok(name) => Ok(name),
-        // the bytes of an operator are a name, so there is no other fault than memory
-        Err(_) => Err(AllocError),
-    }
-}
 
 fn operation(alloc: Global, operator: Operator, a: Expr, b: Expr) -> Result<Expr, AllocError>
     ensures { IfOk result (λ v. v ≡ operation operator a b) }
 {
-    let name = name(alloc, operator)?;
+    let name = name_of(alloc, operator.bytes())?;
     let mut operands = Items::new(alloc);
     operands.push(a)?;
     operands.push(b)?;

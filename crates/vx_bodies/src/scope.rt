@@ -1,6 +1,5 @@
 //! The names in scope.
-ghost use Rattle.std.specs.Prelude.{◌≡◌, ◌||◌, ◌&&◌, not, true};
-ghost use Rattle.std.specs.Str.{bytes_eq};
+ghost use Rattle.std.specs.Prelude.{◌≡◌, ◌||◌, ◌&&◌, not};
 ghost use Rattle.vx_syntax.specs.Expressions.{is_among, is_bound, is_variable, field_names, with_formals};
 ghost use Rattle.vx_bodies.specs.Machine.{block_scope, outer_scope};
 ghost use Rattle.vx_bodies.specs.Scopes.{is_listed};
@@ -34,33 +33,14 @@ pub fn is_field(fields: &[(Name, Expr)], x: &[u8]) -> bool
     false
 }
 
-fn is_one(bound: &(Name, bool), x: &[u8], variable: bool) -> bool
-    ensures { result ≡ (bytes_eq bound.now.0 x.now && (bound.now.1 || not variable)) }
-{
-    bound.0.bytes() == x && (bound.1 || !variable)
-}
-
-// Whether the name is one of these, and may be assigned where only such names are wanted.
-#[tactic(auto, using(crate::proofs::Scopes::listed_at, crate::proofs::Scopes::listed_past))]
-fn is_listed(declared: &Stack<(Name, bool)>, x: &[u8], variable: bool) -> bool
-    ensures { result ≡ is_listed variable declared.now x.now }
-{
-    for i in 0..declared.len() {
-        if is_one(declared.at(i), x, variable) {
-            return true;
-        }
-    }
-    false
-}
-
-fn has(level: &Level, x: &[u8], variable: bool) -> bool
+fn has(level: &Level, x: &Name, variable: bool) -> bool
     ensures { result ≡ (is_among level.now.formals x.now && not variable || is_listed variable level.now.declared x.now) }
 {
-    is_among(level.formals.as_slice(), x) && !variable || is_listed(&level.declared, x, variable)
+    is_among(level.formals.as_slice(), x.bytes()) && !variable || level.declared.has(x, variable)
 }
 
 #[tactic(auto, using(crate::proofs::Scopes::outer_at, crate::proofs::Scopes::outer_past))]
-fn is_outside(levels: &Stack<Level>, x: &[u8], variable: bool) -> bool
+fn is_outside(levels: &Stack<Level>, x: &Name, variable: bool) -> bool
     ensures { result ≡ is_listed variable (outer_scope levels.now) x.now }
 {
     for i in 0..levels.len() {
@@ -72,15 +52,15 @@ fn is_outside(levels: &Stack<Level>, x: &[u8], variable: bool) -> bool
 }
 
 #[tactic(auto, using(crate::proofs::Scopes::listed_append))]
-fn is_there(block: &Block, x: &[u8], variable: bool) -> bool
+fn is_there(block: &Block, x: &Name, variable: bool) -> bool
     ensures { result ≡ is_listed variable (block_scope block.now) x.now }
 {
-    is_listed(&block.declared, x, variable) || is_outside(&block.levels, x, variable)
+    block.declared.has(x, variable) || is_outside(&block.levels, x, variable)
 }
 
 /// Whether the name is in scope in the body.
 #[tactic(auto, using(crate::proofs::Scopes::bound_is))]
-pub fn is_in_scope(block: &Block, x: &[u8]) -> bool
+pub fn is_in_scope(block: &Block, x: &Name) -> bool
     ensures { result ≡ is_bound (block_scope block.now) x.now }
 {
     is_there(block, x, false)
@@ -88,7 +68,7 @@ pub fn is_in_scope(block: &Block, x: &[u8]) -> bool
 
 /// Whether the name is in scope in the body, and may be assigned.
 #[tactic(auto, using(crate::proofs::Scopes::variable_is))]
-pub fn is_variable_in_scope(block: &Block, x: &[u8]) -> bool
+pub fn is_variable_in_scope(block: &Block, x: &Name) -> bool
     ensures { result ≡ is_variable (block_scope block.now) x.now }
 {
     is_there(block, x, true)
@@ -96,8 +76,8 @@ pub fn is_variable_in_scope(block: &Block, x: &[u8]) -> bool
 
 /// Whether the name is in scope after these formals of a closure in the body.
 #[tactic(auto, using(crate::proofs::Scopes::formal_bound))]
-pub fn is_bound_after(formals: &[Name], block: &Block, x: &[u8]) -> bool
+pub fn is_bound_after(formals: &[Name], block: &Block, x: &Name) -> bool
     ensures { result ≡ is_bound (with_formals (block_scope block.now) formals.now) x.now }
 {
-    is_among(formals, x) || is_in_scope(block, x)
+    is_among(formals, x.bytes()) || is_in_scope(block, x)
 }

@@ -1,5 +1,6 @@
 //! What the machine holds between two tokens.
 use crate::arguments::Arguments;
+use crate::declared::Declared;
 use crate::stack::Stack;
 use sqlite_items::Items;
 use vx_names::{Name, Operator};
@@ -47,7 +48,7 @@ pub struct Level {
     pub pending: Pending,
     pub brackets: Stack<Bracket>,
     pub kind: Kind,
-    pub declared: Stack<(Name, bool)>,
+    pub declared: Declared,
     pub statements: Items<Stmt>,
     pub formals: Items<Name>,
 }
@@ -57,7 +58,7 @@ pub struct Level {
 #[derive(Drop)]
 pub struct Block {
     pub levels: Stack<Level>,
-    pub declared: Stack<(Name, bool)>,
+    pub declared: Declared,
     pub statements: Items<Stmt>,
 }
 

@@ -77,7 +77,7 @@ pub fn statement(alloc: Global, block: Block, token: Token) -> Result<Next, Allo
 fn assigned(alloc: Global, block: Block, name: Name) -> Next
     ensures { result ≡ spec.named block name (Token.Mark Mark.Becomes) }
 {
-    if is_variable_in_scope(&block, name.bytes()) {
+    if is_variable_in_scope(&block, &name) {
         expression(alloc, Kind::Changed(name), block)
     } else {
         stuck((block, name))
@@ -105,7 +105,7 @@ pub fn named(alloc: Global, block: Block, name: Name, token: Token) -> Result<Ne
 fn fresh(block: Block, is_variable: bool, name: Name) -> Next
     ensures { result ≡ spec.fresh block is_variable name }
 {
-    if is_in_scope(&block, name.bytes()) {
+    if is_in_scope(&block, &name) {
         stuck((block, name))
     } else {
         Next::On(State::Bound(block, is_variable, name))

@@ -3,10 +3,10 @@ ghost use Rattle.std.specs.Prelude.{◌≡◌, [], Some, IfOk, is_some};
 ghost use Rattle.vx_phrases.specs.KeyMachine as spec;
 
 use crate::key_state::{KeyMessage, KeyState};
-use crate::words::{is_short, method_key, operator_name, two};
+use crate::words::{is_short, method_key, two};
 use sqlite_items::Items;
 use std::alloc::{AllocError, Global};
-use vx_names::{DeclKey, FieldKey, Name, Operator};
+use vx_names::{DeclKey, FieldKey, Name, Operator, name_of};
 use vx_syntax::{Keyword, Mark, Token};
 
 /// The most specialisers that a name may have.
@@ -181,7 +181,7 @@ fn with_last_of_two(
 ) -> Result<KeyState, AllocError>
     ensures { IfOk result (λ next. Some next ≡ spec.with_last (KeyMessage.Half operator first) last) }
 {
-    let name = operator_name(alloc, operator)?;
+    let name = name_of(alloc, operator.bytes())?;
     method_whole(name, two(alloc, first, last)?)
 }
 

@@ -6,11 +6,11 @@ ghost use Rattle.vx_phrases.specs.DeclMachine as spec;
 ghost use Rattle.vx_phrases.specs.DeclMachine.{given};
 
 use crate::decl_state::{DeclState, Head, Message, MethodState};
-use crate::words::{any_name, operator_name, two};
+use crate::words::{any_name, two};
 use sqlite_items::Items;
 use std::alloc::{AllocError, Global};
 use vx_bodies::begin;
-use vx_names::{Name, Operator};
+use vx_names::{Name, Operator, name_of};
 use vx_syntax::{Mark, Token};
 
 /// The most formals that a name may have.
@@ -85,7 +85,7 @@ fn with_second(
 ) -> Result<Head, AllocError>
     ensures { IfOk result (λ head. Some head ≡ spec.with_last (Message.Half operator first.name first.specialiser) second.name second.specialiser) }
 {
-    let name = operator_name(alloc, operator)?;
+    let name = name_of(alloc, operator.bytes())?;
     let formals = two_formals(alloc, first.name, second.name)?;
     let specialisers = two(alloc, first.specialiser, second.specialiser)?;
     Ok(Head {

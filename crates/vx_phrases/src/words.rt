@@ -1,38 +1,24 @@
 //! Names that are made, and tests of names.
 ghost use Rattle.std.specs.Prelude.{◌≡◌, [], ◌∷◌, IfOk, nat_le, length};
-ghost use Rattle.vx_names.specs.Name.{IsName};
-ghost use Rattle.vx_names.specs.Operator.{spelling};
 ghost use Rattle.vx_syntax.specs.Expressions.{max_field_bytes};
 ghost use Rattle.vx_syntax.specs.Declarations.{any, method_key};
 
 use sqlite_items::Items;
 use std::alloc::{AllocError, Global};
-use vx_names::{MethodKey, Name, Operator, Selector, operators_are_names};
-
-/// The most bytes in the name of a field.
-const FIELD_BYTES: usize = 60;
+use vx_names::{FIELD_NAME_BYTES, MethodKey, Name, Selector, name_of};
 
 /// Whether a field may have the name.
 pub fn is_short(name: &Name) -> bool
     ensures { result ≡ nat_le (length name.now) max_field_bytes }
 {
-    name.bytes().len() <= FIELD_BYTES
-}
-
-/// The name of an operator's message.
-pub fn operator_name(alloc: Global, operator: Operator) -> Result<Name, AllocError>
-    ensures { IfOk result (λ name. name ≡ spelling operator) }
-{
-    // The bytes of an operator are a name, and are refused for want of memory alone.
-    Name::new(alloc, operator.bytes()).map_err(|_| AllocError)
+    name.bytes().len() <= FIELD_NAME_BYTES
 }
 
 /// The name of the object from which all others inherit.
 pub fn any_name(alloc: Global) -> Result<Name, AllocError>
     ensures { IfOk result (λ name. name ≡ any) }
 {
-    // These bytes are a name, and are refused for want of memory alone.
-    Name::new(alloc, b"any").map_err(|_| AllocError)
+    name_of(alloc, b"any")
 }
 
 /// The names alone that are given in two.
