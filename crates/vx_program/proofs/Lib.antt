@@ -1,2 +1,4 @@
+pub mod Members
+pub mod Chains
 pub mod Lookups
 mod Rows
