@@ -1,4 +1,9 @@
 pub mod Members
 pub mod Chains
+pub mod Names
+pub mod Faults
+pub mod Sums
+pub mod Reserved
+pub mod KeepsJoined
 pub mod Lookups
 mod Rows

@@ -106,10 +106,10 @@ found ds key h = some_of (find ds key) h where
   some_of (Some a) k = (a, refl)
 
 -- one more declaration
-stops : (a new : Decl) (ds : List Decl) → is_before a new ≡ false → with_decl (a ∷ ds) new ≡ new ∷ a ∷ ds
+pub stops : (a new : Decl) (ds : List Decl) → is_before a new ≡ false → with_decl (a ∷ ds) new ≡ new ∷ a ∷ ds
 stops a new ds f = cond-false (is_before a new) (a ∷ with_decl ds new) (new ∷ a ∷ ds) f
 
-goes : (a new : Decl) (ds : List Decl) → is_before a new ≡ true → with_decl (a ∷ ds) new ≡ a ∷ with_decl ds new
+pub goes : (a new : Decl) (ds : List Decl) → is_before a new ≡ true → with_decl (a ∷ ds) new ≡ a ∷ with_decl ds new
 goes a new ds t = cond-true (is_before a new) (a ∷ with_decl ds new) (new ∷ a ∷ ds) t
 
 pub in_with : (ds : List Decl) (new a : Decl) → IsIn a (with_decl ds new) → (new ≡ a) ⊎ IsIn a ds
@@ -152,10 +152,10 @@ ordered_with (a ∷ ds) new o free =
     ]
 
 -- a declaration in the place of another
-here : (a new : Decl) (ds : List Decl) → has_key (key_of new) a ≡ true → replaced (a ∷ ds) new ≡ new ∷ ds
+pub here : (a new : Decl) (ds : List Decl) → has_key (key_of new) a ≡ true → replaced (a ∷ ds) new ≡ new ∷ ds
 here a new ds t = cond-true (has_key (key_of new) a) (new ∷ ds) (a ∷ replaced ds new) t
 
-behind : (a new : Decl) (ds : List Decl) → has_key (key_of new) a ≡ false → replaced (a ∷ ds) new ≡ a ∷ replaced ds new
+pub behind : (a new : Decl) (ds : List Decl) → has_key (key_of new) a ≡ false → replaced (a ∷ ds) new ≡ a ∷ replaced ds new
 behind a new ds f = cond-false (has_key (key_of new) a) (new ∷ ds) (a ∷ replaced ds new) f
 
 pub in_replaced : (ds : List Decl) (new a : Decl) → IsOrdered ds → IsIn a (replaced ds new) → (new ≡ a) ⊎ (IsIn a ds × (has_key (key_of new) a ≡ false))
@@ -222,10 +222,10 @@ ordered_replaced (a ∷ ds) new o =
     ]
 
 -- one declaration less
-gone : (a : Decl) (ds : List Decl) (key : DeclKey) → has_key key a ≡ true → without (a ∷ ds) key ≡ ds
+pub gone : (a : Decl) (ds : List Decl) (key : DeclKey) → has_key key a ≡ true → without (a ∷ ds) key ≡ ds
 gone a ds key t = cond-true (has_key key a) ds (a ∷ without ds key) t
 
-kept : (a : Decl) (ds : List Decl) (key : DeclKey) → has_key key a ≡ false → without (a ∷ ds) key ≡ a ∷ without ds key
+pub kept : (a : Decl) (ds : List Decl) (key : DeclKey) → has_key key a ≡ false → without (a ∷ ds) key ≡ a ∷ without ds key
 kept a ds key f = cond-false (has_key key a) ds (a ∷ without ds key) f
 
 pub in_without : (ds : List Decl) (key : DeclKey) (a : Decl) → IsOrdered ds → IsIn a (without ds key) → IsIn a ds × (has_key key a ≡ false)
