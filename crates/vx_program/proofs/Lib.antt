@@ -5,5 +5,10 @@ pub mod Faults
 pub mod Sums
 pub mod Reserved
 pub mod KeepsJoined
+pub mod KeepsDropped
+pub mod KeepsLimits
+pub mod KeepsAdded
+pub mod KeepsPut
+pub mod Keeps
 pub mod Lookups
 mod Rows
