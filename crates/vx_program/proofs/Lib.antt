@@ -4,6 +4,8 @@ pub mod Names
 pub mod Faults
 pub mod Sums
 pub mod Reserved
+pub mod PreludeCounts
+pub mod Starts
 pub mod KeepsJoined
 pub mod KeepsDropped
 pub mod KeepsLimits

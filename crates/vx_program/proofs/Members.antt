@@ -1,9 +1,9 @@
 -- Members of lists, and of the program that a change makes.
 use Rattle.std.proofs.Common.{◌≡◌, List, [], ◌∷◌, Bool, true, false, Option, Some, None, refl, sym, ap, ◌∙◌, inl, inr, is_some, ◌⊎◌, Ordering, Less, Equal, Greater}
 use Rattle.std.specs.Cmp.{Equal-is, tied_itself}
-use Rattle.std.specs.List.{list_any}
+use Rattle.std.specs.List.{list_any, list_all}
 use Rattle.std.specs.Ordering.{is_lt, is_eq, ordering_reverse}
-use Rattle.std.proofs.lemmas.Bool.{cases_Bool, both_ways, false_from_ne_true, cond-true, cond-false, false≢true, or_cases, or_left, or_right}
+use Rattle.std.proofs.lemmas.Bool.{cases_Bool, both_ways, false_from_ne_true, cond-true, cond-false, false≢true, or_cases, or_left, or_right, and_parts}
 use Rattle.vx_names.specs.declared.key.DeclKey.{DeclKey}
 use Rattle.vx_names.specs.Key.{decl_key_cmp}
 use Rattle.vx_names.specs.KeyLaws.{decl_keys_total}
@@ -30,6 +30,12 @@ in_any p (y ∷ ys) h =
 
 pub none_of : {X : Type 0} (p : X → Bool) (xs : List X) → list_any p xs ≡ false → (x : X) → IsIn x xs → p x ≡ false
 none_of p xs h x i = false_from_ne_true (p x) (λ t. both_ways (list_any p xs) h (any_in p xs x i t))
+
+-- a test that all of the list pass
+pub each : {X : Type 0} (p : X → Bool) (xs : List X) → list_all p xs ≡ true → (x : X) → IsIn x xs → p x ≡ true
+each p [] h x i = absurd i
+each p (y ∷ ys) h x (inl e) = ap p (sym e) ∙ (and_parts (p y) (list_all p ys) h).0
+each p (y ∷ ys) h x (inr i) = each p ys (and_parts (p y) (list_all p ys) h).1 x i
 
 -- keys that are told to be the same are
 pub same_key_is : (a b : DeclKey) → same_key a b ≡ true → a ≡ b
@@ -86,6 +92,16 @@ alone a ds key o h b i =
     false_from_ne_true (has_key key b) (λ t.
     let e : key_of a ≡ key_of b = has_key_is key a h ∙ sym (has_key_is key b t) in
     both_ways (is_before a b) (ap (λ z. is_lt (decl_key_cmp (key_of a) z)) (sym e) ∙ not_before_itself (key_of a)) (goes_first a ds o b i))
+
+-- members with one key are one
+pub same_member : (ds : List Decl) → IsOrdered ds → (a b : Decl) → IsIn a ds → IsIn b ds → key_of a ≡ key_of b → a ≡ b
+same_member [] o a b ia ib e = absurd ia
+same_member (c ∷ ds) o a b (inl m) (inl n) e = sym m ∙ n
+same_member (c ∷ ds) o a b (inl m) (inr n) e =
+    absurd (both_ways _ (alone c ds (key_of b) o (has_its_key (key_of b) c (ap key_of m ∙ e)) b n) (has_its_key (key_of b) b refl))
+same_member (c ∷ ds) o a b (inr m) (inl n) e =
+    absurd (both_ways _ (alone c ds (key_of a) o (has_its_key (key_of a) c (ap key_of n ∙ sym e)) a m) (has_its_key (key_of a) a refl))
+same_member (c ∷ ds) o a b (inr m) (inr n) e = same_member ds (tail_ordered c ds o) a b m n e
 
 -- what is found
 pub find_gives : (ds : List Decl) (key : DeclKey) (a : Decl) → find ds key ≡ Some a → IsIn a ds × (has_key key a ≡ true)
