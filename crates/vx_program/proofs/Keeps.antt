@@ -9,12 +9,13 @@ use Rattle.vx_program.specs.declared.edit.EditFault.TheVariants.{Reserved}
 use Rattle.vx_program.specs.Prelude.{is_reserved}
 use Rattle.vx_program.specs.Program.{shared, IsProgram}
 use Rattle.vx_program.specs.Apply.{made, reserved_fault, missing_fault, fault_of, changed, apply, IsChangeWritten}
-use Rattle.vx_program.proofs.Faults.{neither, fails}
+use Rattle.vx_program.proofs.NoFault.{neither, fails}
 use Rattle.vx_program.proofs.KeepsJoined.{joined}
 use Rattle.vx_program.proofs.KeepsDropped.{dropped}
 use Rattle.vx_program.proofs.KeepsAdded.{added}
 use Rattle.vx_program.proofs.KeepsPut.{put}
 
+-- one change
 pub keeps : (program : List Decl) (change : Change) → IsProgram program → IsChangeWritten change → fault_of program change ≡ None → IsProgram (made program change)
 keeps program (Add new) is written h = joined is (added program new is written h)
 keeps program (Put new) is written h = joined is (put program new is written h)
@@ -36,6 +37,7 @@ first_made : (first : Result (List Decl) EditFault) (changes : List Change) (las
 first_made (Ok next) changes last h = (next, refl, h)
 first_made (Err x) changes last h = absurd (cc)
 
+-- changes in order
 pub keeps_all : (program : List Decl) (changes : List Change) (last : List Decl) → IsProgram program → AllByRecursion IsChangeWritten changes → apply program changes ≡ Ok last → IsProgram last
 keeps_all program [] last is written h = let same : program ≡ last = cc in subst IsProgram same is
 keeps_all program (change ∷ changes) last is written h =

@@ -16,9 +16,9 @@ use Rattle.vx_program.specs.Program.{IsIn, parents_of, mentioned, has_key, is_na
 use Rattle.vx_program.specs.Apply.{with_decl, reserved_fault, exists_fault, unknown_fault, wrong_kind_fault, fault_of}
 use Rattle.vx_program.proofs.Members.{in_any, has_key_is, in_with, new_in_with, old_in_with, ordered_with}
 use Rattle.vx_program.proofs.Chains.{named_itself}
-use Rattle.vx_program.proofs.Names.{occupies_is, occupies_own, occupies_name}
-use Rattle.vx_program.proofs.Faults.{neither, fails, none_occupies, not_a_primitive, none_holds, all_known, all_right}
-use Rattle.vx_program.proofs.Sums.{sum_with}
+use Rattle.vx_program.proofs.ByKey.{occupies_is, occupies_own, occupies_name}
+use Rattle.vx_program.proofs.NoFault.{neither, fails, none_occupies, not_a_primitive, none_holds, all_known, all_right}
+use Rattle.vx_program.proofs.MemberSums.{sum_with}
 use Rattle.vx_program.proofs.KeepsJoined.{Joins}
 use Rattle.vx_program.proofs.KeepsLimits.{methods_still, limited}
 
@@ -49,6 +49,7 @@ module _ (program : List Decl) (new : Decl) (is : IsProgram program) (h : exists
       let r = in_any (is_named x) program t in
       both_ways (occupies r.0 (k.Object x)) (none_has_it (k.Object x) (occupies_name x new (named_itself new parent p)) r.0 r.1) (occupies_name x r.0 r.2)
 
+-- what the program with one more declaration has of it
 pub added : (program : List Decl) (new : Decl) → IsProgram program → IsDeclWritten new → fault_of program (Add new) ≡ None → Joins program (with_decl program new) new
 added program new is written h =
     let r = neither (reserved_fault (key_of new)) _ h in

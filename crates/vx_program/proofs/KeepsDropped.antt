@@ -14,10 +14,10 @@ use Rattle.vx_program.specs.Program.{IsIn, parents_of, mentioned, has_key, is_na
 use Rattle.vx_program.specs.Apply.{without, in_use_fault}
 use Rattle.vx_program.proofs.Members.{any_in, in_any, has_key_is, in_without, old_in_without, ordered_without}
 use Rattle.vx_program.proofs.Chains.{same_bytes, bytes_same, leads_in_more}
-use Rattle.vx_program.proofs.Names.{names, named_by_key}
-use Rattle.vx_program.proofs.Faults.{none_mentions}
-use Rattle.vx_program.proofs.Sums.{sum_without, length_without}
-use Rattle.vx_program.proofs.Reserved.{prelude_is_reserved}
+use Rattle.vx_program.proofs.ByKey.{names, named_by_key}
+use Rattle.vx_program.proofs.NoFault.{none_mentions}
+use Rattle.vx_program.proofs.MemberSums.{sum_without, length_without}
+use Rattle.vx_program.proofs.PreludeKeys.{prelude_is_reserved}
 
 -- a declaration that is not in use is named by none
 not_named : (program : List Decl) (key : DeclKey) (x : Bytes) → in_use_fault program key ≡ None → names x key ≡ true → (a : Decl) → IsIn a program → is_name_of (mentioned a) x ≡ false
@@ -89,6 +89,7 @@ module _ (program : List Decl) (key : DeclKey) (is : IsProgram program) (unreser
       let few : sum_by (methods_made selector) program + count_by (is_method_of selector) (map k.Method primitives) ≤ MAX_METHODS = is.methods selector in
       omega arith
 
+  -- all fields together
   pub dropped : IsProgram (without program key)
   dropped =
       record {

@@ -17,8 +17,8 @@ use Rattle.vx_program.specs.Prelude.{prelude, is_primitive, is_reserved, sealed}
 use Rattle.vx_program.specs.Program.{IsIn, parents_of, mentioned, has_key, is_named, is_there, is_predicate, is_predicate_there, is_name_of, is_wrong, shared, occupies, methods_of, declared, Leads, here, up, IsOrdered, IsProgram}
 use Rattle.vx_program.proofs.Members.{any_in, in_any, has_key_is}
 use Rattle.vx_program.proofs.Chains.{name_is, leads_on}
-use Rattle.vx_program.proofs.Names.{same_names, same_kinds, occupies_name}
-use Rattle.vx_program.proofs.Reserved.{prelude_is_reserved}
+use Rattle.vx_program.proofs.ByKey.{same_names, same_kinds, occupies_name}
+use Rattle.vx_program.proofs.PreludeKeys.{prelude_is_reserved}
 
 -- The next program has the new declaration and those of the program that have other keys, and the new one has no fault.
 pub record Joins (program next : List Decl) (new : Decl) : Type 0 where
@@ -39,7 +39,7 @@ pub record Joins (program next : List Decl) (new : Decl) : Type 0 where
   pub is_written : IsDeclWritten new
 
 -- a test is passed by one of the program whose key is not new, or by one that has the new one's key
-abbrev pub Passed : List Decl → Decl → (Decl → Bool) → Type 0
+abbrev Passed : List Decl → Decl → (Decl → Bool) → Type 0
 Passed program new p = ((a : Decl) × IsIn a program × (has_key (key_of new) a ≡ false) × (p a ≡ true)) ⊎ ((a : Decl) × IsIn a program × (key_of a ≡ key_of new) × (p a ≡ true))
 
 passed : (program : List Decl) (new : Decl) (p : Decl → Bool) → list_any p program ≡ true → Passed program new p
@@ -52,7 +52,7 @@ passed program new p h =
 
 module _ {program next : List Decl} {new : Decl} (is : IsProgram program) (j : Joins program next new) where
   -- what was there still is
-  pub there_still : (x : Bytes) → is_there program x ≡ true → is_there next x ≡ true
+  there_still : (x : Bytes) → is_there program x ≡ true → is_there next x ≡ true
   there_still x h =
       elim (passed program new (is_named x) h) [
         | inl r ↦ any_in (is_named x) next r.0 (j.stays r.0 r.1 r.2) r.3
@@ -60,7 +60,7 @@ module _ {program next : List Decl} {new : Decl} (is : IsProgram program) (j : J
       ]
 
   -- a name that was there has become no predicate's
-  pub kind_still : (x : Bytes) → is_there program x ≡ true → is_predicate_there next x ≡ true → is_predicate_there program x ≡ true
+  kind_still : (x : Bytes) → is_there program x ≡ true → is_predicate_there next x ≡ true → is_predicate_there program x ≡ true
   kind_still x there h =
       let p : Decl → Bool = λ decl. is_predicate decl && is_named x decl in
       let r = in_any p next h in
@@ -174,6 +174,7 @@ module _ {program next : List Decl} {new : Decl} (is : IsProgram program) (j : J
   pub joined_written : (decl : Decl) → IsIn decl next → IsIn decl prelude ⊎ IsDeclWritten decl
   joined_written decl i = elim (j.in_next decl i) [ inl e ↦ inr (subst IsDeclWritten e j.is_written) | inr o ↦ is.written decl o.0 ]
 
+-- all fields together
 pub joined : {program next : List Decl} {new : Decl} → IsProgram program → Joins program next new → IsProgram next
 joined is j =
     record {

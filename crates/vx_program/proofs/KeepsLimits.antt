@@ -9,11 +9,11 @@ use Rattle.vx_program.specs.declared.limits.TheConstants.{MAX_DECLARATIONS, MAX_
 use Rattle.vx_program.specs.Prelude.{primitives}
 use Rattle.vx_program.specs.Program.{IsIn, occupied, is_method_of, methods_made, methods_of, declared, IsProgram}
 use Rattle.vx_program.specs.Apply.{over, methods_fault, limit_fault}
-use Rattle.vx_program.proofs.Names.{method_of_it}
-use Rattle.vx_program.proofs.Faults.{neither, within, within_capped, methods_within}
-use Rattle.vx_program.proofs.Sums.{counts}
+use Rattle.vx_program.proofs.ByKey.{method_of_it}
+use Rattle.vx_program.proofs.NoFault.{neither, within, within_capped, methods_within}
+use Rattle.vx_program.proofs.MemberSums.{counts}
 
--- no selector has too many methods where none of the new ones has and there is no other that is new
+-- no selector has too many methods where the new declaration's own selectors do not, and no other method came
 pub methods_still : (program next : List Decl) (new : Decl) → IsProgram program →
     ((selector : Selector) → sum_by (methods_made selector) next ≤ sum_by (methods_made selector) program + methods_made selector new) →
     methods_fault next (occupied new) ≡ None → (selector : Selector) → methods_of next selector ≤ MAX_METHODS
@@ -29,7 +29,7 @@ methods_still program next new is most h selector =
           subst (λ z. methods_of next z ≤ MAX_METHODS) own.2 (methods_within next (occupied new) h own.0 (subst (λ z. IsIn z (occupied new)) (sym own.1) some.1))
     ]
 
--- what has no fault of limits
+-- what holds where there is no fault of limits
 pub record Limited (next : List Decl) (new : Decl) : Type 0 where
   pub few : declared next ≤ MAX_DECLARATIONS
   pub methods_free : methods_fault next (occupied new) ≡ None

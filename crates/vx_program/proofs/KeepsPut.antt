@@ -14,9 +14,9 @@ use Rattle.vx_program.specs.Program.{IsIn, parents_of, mentioned, has_key, find,
 use Rattle.vx_program.specs.Apply.{replaced, holder, reserved_fault, exists_fault, gained, missing_fault, unknown_fault, wrong_kind_fault, leads_back, cycle_fault, fault_of}
 use Rattle.vx_program.proofs.Members.{none_of, find_gives, found, in_replaced, new_in_replaced, old_in_replaced, ordered_replaced}
 use Rattle.vx_program.proofs.Chains.{leads_finds}
-use Rattle.vx_program.proofs.Names.{occupies_is}
-use Rattle.vx_program.proofs.Faults.{neither, passes, fails, none_occupies, not_a_primitive, none_holds, all_known, all_right, in_filter}
-use Rattle.vx_program.proofs.Sums.{sum_replaced}
+use Rattle.vx_program.proofs.ByKey.{occupies_is}
+use Rattle.vx_program.proofs.NoFault.{neither, passes, fails, none_occupies, not_a_primitive, none_holds, all_known, all_right, in_filter}
+use Rattle.vx_program.proofs.MemberSums.{sum_replaced}
 use Rattle.vx_program.proofs.KeepsJoined.{Joins}
 use Rattle.vx_program.proofs.KeepsLimits.{methods_still, limited}
 
@@ -52,6 +52,7 @@ no_way_back program new h parent p chain =
     let none : leads_back program (parents_of new) x ≡ false = (fails (leads_back program (parents_of new) x) (Cycle x) None h).0 in
     both_ways (leads program parent x) (none_of (λ z. leads program z x) (parents_of new) none parent p) (leads_finds program parent x chain)
 
+-- what the program with the declaration in its place has of it
 pub put : (program : List Decl) (new : Decl) → IsProgram program → IsDeclWritten new → fault_of program (Put new) ≡ None → Joins program (replaced program new) new
 put program new is written h =
     let r = neither (reserved_fault (key_of new)) _ h in

@@ -1,9 +1,9 @@
 pub mod Members
 pub mod Chains
-pub mod Names
-pub mod Faults
-pub mod Sums
-pub mod Reserved
+pub mod ByKey
+pub mod NoFault
+pub mod MemberSums
+pub mod PreludeKeys
 pub mod PreludeCounts
 pub mod Starts
 pub mod KeepsJoined

@@ -127,5 +127,6 @@ one_within [] h decl i = absurd i
 one_within (a ∷ decls) h decl (inl e) = subst IsWithin e h.0
 one_within (a ∷ decls) h decl (inr i) = one_within decls h.1 decl i
 
+-- each declaration of the prelude is within the limits
 pub prelude_within : (decl : Decl) → IsIn decl prelude → IsWithin decl
 prelude_within = one_within prelude all_within

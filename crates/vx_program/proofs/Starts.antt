@@ -18,7 +18,7 @@ use Rattle.vx_program.specs.Prelude.{prelude, primitives, is_primitive}
 use Rattle.vx_program.specs.Program.{IsIn, parents_of, mentioned, is_named, is_there, is_wrong, occupies, is_method_of, methods_made, methods_of, declared, Leads, here, up, is_before, IsOrdered, IsProgram}
 use Rattle.vx_program.proofs.Members.{each, same_member}
 use Rattle.vx_program.proofs.Chains.{name_is}
-use Rattle.vx_program.proofs.Names.{occupies_is}
+use Rattle.vx_program.proofs.ByKey.{occupies_is}
 use Rattle.vx_program.proofs.PreludeCounts.{prelude_within}
 
 -- each goes before the next
@@ -135,6 +135,7 @@ prelude_methods selector =
     let few_too : length (map k.Method primitives) ≡ 18 = primitives_length in
     omega arith
 
+-- each program begins as one
 pub starts : IsProgram prelude
 starts =
     record {

@@ -11,6 +11,6 @@ all_reserved : list_all (λ decl. is_reserved (shared (key_of decl))) prelude �
 unfolding prelude primitives
 all_reserved = refl
 
--- no change may name a key of the prelude
+-- a key of the prelude is reserved, so no change may name it
 pub prelude_is_reserved : (decl : Decl) → IsIn decl prelude → is_reserved (shared (key_of decl)) ≡ true
 prelude_is_reserved = each (λ decl. is_reserved (shared (key_of decl))) prelude all_reserved

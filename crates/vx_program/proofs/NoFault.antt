@@ -16,11 +16,12 @@ use Rattle.vx_program.specs.Prelude.{is_primitive}
 use Rattle.vx_program.specs.Program.{IsIn, occupies, mentioned, is_there, is_wrong, is_name_of, methods_of}
 use Rattle.vx_program.specs.Apply.{or_else, holder, held, exists_fault, unknown_fault, wrong_kind_fault, in_use_from, over, methods_fault}
 
+-- no fault is neither the first nor the second
 pub neither : (a b : Option EditFault) → or_else a b ≡ None → (a ≡ None) × (b ≡ None)
 neither None b h = (refl, h)
 neither (Some fault) b h = absurd (cc)
 
--- a test that has to hold, or may not
+-- no fault where a test has to pass, and where it has to fail
 pub passes : {X : Type 0} (b : Bool) (x : X) (rest : Option X) → cond b rest (Some x) ≡ None → (b ≡ true) × (rest ≡ None)
 passes true x rest h = (refl, h)
 passes false x rest h = absurd (cc)
@@ -43,6 +44,7 @@ pub not_a_primitive : (program : List Decl) (key : DeclKey) → holder program k
 not_a_primitive [] key h = (fails (is_primitive key) key None h).0
 not_a_primitive (decl ∷ decls) key h = not_a_primitive decls key (fails (occupies decl key) (held decl key) (holder decls key) h).1
 
+-- nothing holds the keys
 pub none_holds : (program : List Decl) (keys : List DeclKey) → exists_fault program keys ≡ None → (key : DeclKey) → IsIn key keys → holder program key ≡ None
 none_holds program [] h key i = absurd i
 none_holds program (own ∷ keys) h key (inl e) =
@@ -50,11 +52,13 @@ none_holds program (own ∷ keys) h key (inl e) =
 none_holds program (own ∷ keys) h key (inr i) =
     none_holds program keys (neither (option_map Exists (holder program own)) (exists_fault program keys) h).1 key i
 
+-- each name is that of an object or a predicate
 pub all_known : (program : List Decl) (xs : List Bytes) → unknown_fault program xs ≡ None → (x : Bytes) → IsIn x xs → is_there program x ≡ true
 all_known program [] h x i = absurd i
 all_known program (y ∷ ys) h x (inl e) = ap (is_there program) (sym e) ∙ (passes (is_there program y) (Unknown y) (unknown_fault program ys) h).0
 all_known program (y ∷ ys) h x (inr i) = all_known program ys (passes (is_there program y) (Unknown y) (unknown_fault program ys) h).1 x i
 
+-- each name may stand in the declaration
 pub all_right : (program : List Decl) (decl : Decl) (xs : List Bytes) → wrong_kind_fault program decl xs ≡ None → (x : Bytes) → IsIn x xs → is_wrong program decl x ≡ false
 all_right program decl [] h x i = absurd i
 all_right program decl (y ∷ ys) h x (inl e) =
@@ -62,6 +66,7 @@ all_right program decl (y ∷ ys) h x (inl e) =
 all_right program decl (y ∷ ys) h x (inr i) =
     all_right program decl ys (fails (is_wrong program decl y) (WrongKind y) (wrong_kind_fault program decl ys) h).1 x i
 
+-- no declaration names the object or predicate
 pub none_mentions : (program : List Decl) (x : Bytes) → in_use_from program x ≡ None → (a : Decl) → IsIn a program → is_name_of (mentioned a) x ≡ false
 none_mentions [] x h a i = absurd i
 none_mentions (decl ∷ decls) x h a (inl e) =
@@ -69,12 +74,14 @@ none_mentions (decl ∷ decls) x h a (inl e) =
 none_mentions (decl ∷ decls) x h a (inr i) =
     none_mentions decls x (fails (is_name_of (mentioned decl) x) (InUse x (key_of decl)) (in_use_from decls x) h).1 a i
 
+-- a count is within its limit, also where it is counted in 64 bits
 pub within : (which : Counted) (most count : ℕ) → over which most count ≡ None → count ≤ most
 within which most count h = ltb-false most count (fails (nat_lt most count) (Limit which count) None h).0
 
 pub within_capped : (which : Counted) (most count : ℕ) → most ≤ 255 → over which most (capped count) ≡ None → count ≤ most
 within_capped which most count small h = let below : min count (2 ^ 64 - 1) ≤ most = within which most (capped count) h in omega arith
 
+-- no selector of the keys has too many methods
 pub methods_within : (program : List Decl) (keys : List DeclKey) → methods_fault program keys ≡ None →
     (key : MethodKey) → IsIn (k.Method key) keys → methods_of program key.selector ≤ MAX_METHODS
 methods_within program [] h key i = absurd i
@@ -89,7 +96,7 @@ methods_within program (k.Predicate x ∷ keys) h key (inr i) = methods_within p
 methods_within program (k.Field x ∷ keys) h key (inl e) = absurd (cc)
 methods_within program (k.Field x ∷ keys) h key (inr i) = methods_within program keys h key i
 
--- what is left of a list
+-- a member that passes is left by a filter
 pub in_filter : {X : Type 0} (p : X → Bool) (xs : List X) (x : X) → IsIn x xs → p x ≡ true → IsIn x (filter p xs)
 in_filter p [] x i h = absurd i
 in_filter p (y ∷ ys) x (inl e) h = rw (cond-true (p y) (y ∷ filter p ys) (filter p ys) (ap p e ∙ h)) (inl e)

@@ -1,15 +1,15 @@
 -- Names, keys and what declarations occupy, by their keys.
-use Rattle.std.proofs.Common.{◌≡◌, Bool, true, false, refl, sym, ap, ◌∙◌, subst, inl, Ordering, Less, Equal, Greater}
+use Rattle.std.proofs.Common.{◌≡◌, [], Bool, true, false, refl, sym, ap, ◌∙◌, subst, inl, Equal}
 use Rattle.std.specs.Cmp.{Equal-is}
-use Rattle.std.specs.Ordering.{nat_cmp, is_eq, ordering_then}
+use Rattle.std.specs.Ordering.{is_eq, ordering_then}
 use Rattle.std.specs.Str.{bytes_eq}
 use Rattle.std.proofs.lemmas.Bool.{false≢true}
-use Rattle.std.proofs.lemmas.Map.Lookups.{exact_unsigned, exact_bytes}
 use Rattle.vx_names.specs.declared.key.Selector.{Selector}
 use Rattle.vx_names.specs.declared.key.MethodKey.{MethodKey}
 use Rattle.vx_names.specs.declared.key.DeclKey.{DeclKey}
 use Rattle.vx_names.specs.declared.key.DeclKey.TheVariants as k
-use Rattle.vx_names.specs.Key.{name_cmp, selector_cmp}
+use Rattle.vx_names.specs.Key.{selector_cmp}
+use Rattle.vx_names.proofs.Keys.{keys_apart}
 use Rattle.vx_syntax.specs.declared.decl.Decl.{Decl}
 use Rattle.vx_syntax.specs.declared.decl.Decl.TheVariants as d
 use Rattle.vx_syntax.specs.Expressions.{Bytes}
@@ -32,6 +32,7 @@ is_predicate_key (k.Predicate own) = true
 is_predicate_key (k.Field key) = false
 is_predicate_key (k.Method key) = false
 
+-- the key says which name a declaration has, and whether it is a predicate
 pub named_by_key : (x : Bytes) (a : Decl) → is_named x a ≡ names x (key_of a)
 named_by_key x (d.Object own parents) = refl
 named_by_key x (d.Predicate own parents test) = refl
@@ -44,12 +45,14 @@ predicate_by_key (d.Predicate own parents test) = refl
 predicate_by_key (d.Field key start changeable) = refl
 predicate_by_key (d.Method key formals body) = refl
 
+-- so declarations of one key have one name, and are of one kind
 pub same_names : (x : Bytes) (a b : Decl) → key_of a ≡ key_of b → is_named x a ≡ is_named x b
 same_names x a b e = named_by_key x a ∙ ap (names x) e ∙ sym (named_by_key x b)
 
 pub same_kinds : (a b : Decl) → key_of a ≡ key_of b → is_predicate a ≡ is_predicate b
 same_kinds a b e = predicate_by_key a ∙ ap is_predicate_key e ∙ sym (predicate_by_key b)
 
+-- what a declaration occupies is one of the keys that it is said to occupy
 pub occupies_is : (a : Decl) (key : DeclKey) → occupies a key ≡ true → IsIn key (occupied a)
 occupies_is a key h = let r = in_any (λ own. same_key own key) (occupied a) h in subst (λ z. IsIn z (occupied a)) (same_key_is r.0 key r.2) r.1
 
@@ -76,15 +79,15 @@ shared_name x (k.Method key) h = absurd (false≢true h)
 pub occupies_name : (x : Bytes) (a : Decl) → is_named x a ≡ true → occupies a (k.Object x) ≡ true
 occupies_name x a h = subst (λ z. occupies a z ≡ true) (shared_name x (key_of a) (sym (named_by_key x a) ∙ h)) (occupies_own a)
 
-both_equal : (a b : Ordering) → ordering_then a b ≡ Equal → (a ≡ Equal) × (b ≡ Equal)
-both_equal Less b h = absurd (cc)
-both_equal Equal b h = (refl, h)
-both_equal Greater b h = absurd (cc)
-
+-- methods without specialisers have the order of their selectors
 same_selector : (a b : Selector) → is_eq (selector_cmp a b) ≡ true → a ≡ b
 same_selector a b h =
-    let p = both_equal (name_cmp a.name b.name) (nat_cmp a.arity b.arity) ((Equal-is (selector_cmp a b)).0 h) in
-    ap (λ z. record { name = z; arity = a.arity }) (exact_bytes a.name b.name p.0) ∙ ap (λ z. record { name = b.name; arity = z }) (exact_unsigned a.arity b.arity p.1)
+    let tied : selector_cmp a b ≡ Equal = (Equal-is (selector_cmp a b)).0 h in
+    let one : MethodKey = record { selector = a; specialisers = [] } in
+    let other : MethodKey = record { selector = b; specialisers = [] } in
+    let keys : k.Method one ≡ k.Method other = keys_apart (k.Method one) (k.Method other) (ap (λ o. ordering_then (ordering_then o Equal) Equal) tied) in
+    let same : one ≡ other = cc in
+    ap (λ (z : MethodKey). z.selector) same
 
 -- the key of a method of the selector is a method's
 pub method_of_it : (selector : Selector) (key : DeclKey) → is_method_of selector key ≡ true → (own : MethodKey) × (k.Method own ≡ key) × (own.selector ≡ selector)
