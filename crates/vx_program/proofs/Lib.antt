@@ -13,4 +13,5 @@ pub mod KeepsAdded
 pub mod KeepsPut
 pub mod Keeps
 pub mod Lookups
+pub mod FieldKeys
 mod Rows

@@ -1,5 +1,5 @@
 -- What each program has from the beginning: the declarations of the prelude, and the primitive methods, which are no declarations.
-use Rattle.std.specs.Prelude.{Bool, List, [], ◌∷◌, ◌++◌, map, codes, Some}
+use Rattle.std.specs.Prelude.{ℕ, replicate, Bool, ◌||◌, List, [], ◌∷◌, ◌++◌, map, codes, Some}
 use Rattle.std.specs.List.{list_any}
 use Rattle.std.specs.Ordering.{is_eq}
 use Rattle.vx_names.specs.declared.key.MethodKey.{MethodKey}
@@ -91,30 +91,60 @@ of_integers x = method_key x (codes "int" ∷ codes "int" ∷ [])
 abbrev pub of_strings : Bytes → MethodKey
 of_strings x = method_key x (codes "string" ∷ codes "string" ∷ [])
 
+-- a key of one argument
+abbrev pub of_one : Bytes → Bytes → MethodKey
+of_one x specialiser = method_key x (specialiser ∷ [])
+
+-- the key by which a closure is evaluated with so many arguments
+abbrev pub evaluation : ℕ → MethodKey
+evaluation n = method_key (codes "eval") (codes "closure" ∷ replicate n any)
+
+abbrev pub arithmetic : List MethodKey
+arithmetic = of_integers (codes "+") ∷ of_integers (codes "-") ∷ of_integers (codes "*") ∷ []
+
+abbrev pub division : List MethodKey
+division = of_integers (codes "/") ∷ of_integers (codes "%") ∷ []
+
+abbrev pub comparing : List MethodKey
+comparing = of_integers (codes "<") ∷ of_integers (codes "=") ∷ of_strings (codes "=") ∷ []
+
+-- strings put together, and whether two values are the same
+abbrev pub joining : List MethodKey
+joining = of_strings (codes "++") ∷ method_key (codes "==") (any ∷ any ∷ []) ∷ []
+
+abbrev pub printing : List MethodKey
+printing = of_one (codes "print") (codes "int") ∷ of_one (codes "print") (codes "string") ∷ []
+
+-- closures are evaluated with none to four arguments
+abbrev pub evaluating : List MethodKey
+evaluating = evaluation 0 ∷ evaluation 1 ∷ evaluation 2 ∷ []
+
+abbrev pub evaluating_more : List MethodKey
+evaluating_more = evaluation 3 ∷ evaluation 4 ∷ []
+
+abbrev pub looping : List MethodKey
+looping = of_one (codes "loop") (codes "closure") ∷ []
+
 -- The keys of the primitives, each at its number.
 unfoldable pub primitives : List MethodKey
-primitives =
-    of_integers (codes "+") ∷ of_integers (codes "-") ∷ of_integers (codes "*") ∷ of_integers (codes "/") ∷ of_integers (codes "%") ∷
-    of_integers (codes "<") ∷ of_integers (codes "=") ∷ of_strings (codes "=") ∷ of_strings (codes "++") ∷
-    method_key (codes "==") (any ∷ any ∷ []) ∷ method_key (codes "print") (codes "int" ∷ []) ∷ method_key (codes "print") (codes "string" ∷ []) ∷
-    method_key (codes "eval") (codes "closure" ∷ []) ∷ method_key (codes "eval") (codes "closure" ∷ any ∷ []) ∷
-    method_key (codes "eval") (codes "closure" ∷ any ∷ any ∷ []) ∷ method_key (codes "eval") (codes "closure" ∷ any ∷ any ∷ any ∷ []) ∷
-    method_key (codes "eval") (codes "closure" ∷ any ∷ any ∷ any ∷ any ∷ []) ∷ method_key (codes "loop") (codes "closure" ∷ []) ∷ []
+primitives = (arithmetic ++ division ++ comparing ++ joining) ++ printing ++ evaluating ++ evaluating_more ++ looping
 
--- the keys that no change may name
-abbrev pub reserved_keys : List DeclKey
-reserved_keys = map key_of prelude ++ map k.Method primitives
+abbrev pub prelude_keys : List DeclKey
+prelude_keys = map key_of prelude
+
+abbrev pub primitive_keys : List DeclKey
+primitive_keys = map k.Method primitives
 
 -- whether the key is one of these
 abbrev pub is_one : List DeclKey → DeclKey → Bool
 is_one keys key = list_any (λ one. same_key one key) keys
 
 abbrev pub is_primitive : DeclKey → Bool
-is_primitive key = is_one (map k.Method primitives) key
+is_primitive key = is_one primitive_keys key
 
--- whether the key is that of a prelude object, a prelude method or a primitive
+-- whether the key is that of a prelude object, a prelude method or a primitive: one that no change may name
 abbrev pub is_reserved : DeclKey → Bool
-is_reserved key = is_one reserved_keys key
+is_reserved key = is_one prelude_keys key || is_primitive key
 
 -- the objects that no object and no predicate inherits from
 abbrev pub sealed : List Bytes

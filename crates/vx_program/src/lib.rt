@@ -5,7 +5,10 @@ mod edit;
 mod key;
 mod limits;
 mod lookup;
+mod occupied;
 mod prelude;
+mod reserved;
 
 pub use edit::{Change, Counted, Edit, EditFault};
 pub use limits::{MAX_DECLARATIONS, MAX_DEPTH, MAX_LOCALS, MAX_METHODS};
+pub use reserved::Reserved;

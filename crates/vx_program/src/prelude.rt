@@ -7,7 +7,7 @@ ghost use Rattle.vx_program.specs.Prelude.{child, sent, sent_to_two, answering, 
 
 use sqlite_items::Items;
 use std::alloc::{AllocError, Global};
-use vx_names::{MethodKey, Name, Selector};
+use vx_names::{MethodKey, Name, Selector, name_of};
 use vx_syntax::{Body, Decl, Expr, Stmt};
 
 /// The declarations of the prelude, in key order.
@@ -20,12 +20,6 @@ pub fn prelude(alloc: Global) -> Result<Vec<Decl>, AllocError>
     push_comparisons(alloc, &mut decls)?;
     push_logic(alloc, &mut decls)?;
     Ok(decls)
-}
-
-fn name_of(alloc: Global, bytes: &[u8]) -> Result<Name, AllocError>
-    ensures { IfOk result (λ name. name ≡ bytes.now) }
-{
-    Name::new(alloc, bytes).map_err(|_| AllocError)
 }
 
 /// A list of one name.
@@ -171,7 +165,8 @@ fn child(alloc: Global, x: &[u8], parent: &[u8]) -> Result<Decl, AllocError>
     })
 }
 
-fn pair(alloc: Global, x: &[u8], y: &[u8]) -> Result<Items<Name>, AllocError>
+/// A list of two names.
+pub fn pair(alloc: Global, x: &[u8], y: &[u8]) -> Result<Items<Name>, AllocError>
     ensures { IfOk result (λ names. names ≡ x.now ∷ y.now ∷ []) }
 {
     and(alloc, one(alloc, x)?, y)

@@ -1,0 +1,214 @@
+//! The keys that no change may name.
+ghost use Rattle.std.specs.Prelude.{◌≡◌, ◌≤◌, ◌++◌, ◌∷◌, [], length, map, codes, IfOk, OnOk};
+ghost use Rattle.vx_names.specs.declared.key.DeclKey.TheVariants as k;
+ghost use Rattle.vx_syntax.specs.Declarations.{method_key};
+ghost use Rattle.vx_program.specs.Prelude.{is_one, is_primitive, is_reserved, of_integers, of_strings, of_one, evaluation, arithmetic, division, comparing, joining, printing, evaluating, evaluating_more, looping, prelude_keys, primitive_keys};
+
+use crate::prelude::{method_key, one, pair, prelude};
+use sqlite_items::Items;
+use std::alloc::{AllocError, Global};
+use std::marker::Model;
+use vx_names::{DeclKey, Name, name_of};
+
+/// The keys of the prelude's declarations and of the primitives. It holds nothing else, so contracts see nothing of it.
+#[derive(Drop)]
+pub struct Reserved {
+    prelude: Items<DeclKey>,
+    primitives: Items<DeclKey>,
+}
+
+impl Model for Reserved {
+    ghost use Rattle.std.specs.Prelude.{◌≡◌};
+    ghost use Rattle.vx_program.specs.Prelude.{prelude_keys, primitive_keys};
+
+    ghost Value = { Unit {0} };
+
+    ghost view = { λ _. tt };
+
+    ghost invariant = { λ r. (r.prelude ≡ prelude_keys) × (r.primitives ≡ primitive_keys) };
+}
+
+impl Reserved {
+    pub fn new(alloc: Global) -> Result<Reserved, AllocError> {
+        let mut keys = Items::new(alloc);
+        for decl in prelude(alloc)?.as_slice() {
+            keys.push(decl.key(alloc)?)?;
+        }
+        let primitives = primitives(alloc)?;
+        Ok(Reserved {
+            prelude: keys,
+            primitives,
+        })
+    }
+
+    /// Whether the key is that of a prelude object, a prelude method or a primitive.
+    pub fn has(&self, key: &DeclKey) -> bool
+        ensures { result ≡ is_reserved key.now }
+    {
+        is_one(self.prelude.as_slice(), key) || is_one(self.primitives.as_slice(), key)
+    }
+
+    /// Whether the key is that of a primitive.
+    pub fn is_primitive(&self, key: &DeclKey) -> bool
+        ensures { result ≡ is_primitive key.now }
+    {
+        is_one(self.primitives.as_slice(), key)
+    }
+}
+
+fn is_one(keys: &[DeclKey], key: &DeclKey) -> bool
+    ensures { result ≡ is_one keys.now key.now }
+{
+    for one in keys {
+        if one == key {
+            return true;
+        }
+    }
+    false
+}
+
+#[tactic(auto, using(crate::proofs::Lookups::primitives_are))]
+fn primitives(alloc: Global) -> Result<Items<DeclKey>, AllocError>
+    ensures { IfOk result (λ keys. keys ≡ primitive_keys) }
+{
+    let mut keys = Items::new(alloc);
+    push_operations(alloc, &mut keys)?;
+    push_others(alloc, &mut keys)?;
+    Ok(keys)
+}
+
+fn push_operations(alloc: Global, keys: &mut Items<DeclKey>) -> Result<(), AllocError>
+    ensures { OnOk result (keys.new ≡ keys.old ++ map k.Method (arithmetic ++ division ++ comparing ++ joining)) }
+{
+    push_arithmetic(alloc, keys)?;
+    push_division(alloc, keys)?;
+    push_comparing(alloc, keys)?;
+    push_joining(alloc, keys)
+}
+
+fn push_others(alloc: Global, keys: &mut Items<DeclKey>) -> Result<(), AllocError>
+    ensures { OnOk result (keys.new ≡ keys.old ++ map k.Method (printing ++ evaluating ++ evaluating_more ++ looping)) }
+{
+    push_printing(alloc, keys)?;
+    push_evaluating(alloc, keys)?;
+    push_evaluating_more(alloc, keys)?;
+    push_looping(alloc, keys)
+}
+
+fn push(
+    alloc: Global,
+    keys: &mut Items<DeclKey>,
+    x: &[u8],
+    specialisers: Items<Name>,
+) -> Result<(), AllocError>
+    requires { length specialisers ≤ 8 }
+    ensures { OnOk result (keys.new ≡ keys.old ++ k.Method (method_key x.now specialisers) ∷ []) }
+{
+    keys.push(DeclKey::Method(method_key(alloc, x, specialisers)?))?;
+    Ok(())
+}
+
+fn push_of_integers(alloc: Global, keys: &mut Items<DeclKey>, x: &[u8]) -> Result<(), AllocError>
+    ensures { OnOk result (keys.new ≡ keys.old ++ k.Method (of_integers x.now) ∷ []) }
+{
+    push(alloc, keys, x, pair(alloc, b"int", b"int")?)
+}
+
+fn push_of_strings(alloc: Global, keys: &mut Items<DeclKey>, x: &[u8]) -> Result<(), AllocError>
+    ensures { OnOk result (keys.new ≡ keys.old ++ k.Method (of_strings x.now) ∷ []) }
+{
+    push(alloc, keys, x, pair(alloc, b"string", b"string")?)
+}
+
+fn push_arithmetic(alloc: Global, keys: &mut Items<DeclKey>) -> Result<(), AllocError>
+    ensures { OnOk result (keys.new ≡ keys.old ++ map k.Method arithmetic) }
+{
+    push_of_integers(alloc, keys, b"+")?;
+    push_of_integers(alloc, keys, b"-")?;
+    push_of_integers(alloc, keys, b"*")
+}
+
+fn push_division(alloc: Global, keys: &mut Items<DeclKey>) -> Result<(), AllocError>
+    ensures { OnOk result (keys.new ≡ keys.old ++ map k.Method division) }
+{
+    push_of_integers(alloc, keys, b"/")?;
+    push_of_integers(alloc, keys, b"%")
+}
+
+fn push_comparing(alloc: Global, keys: &mut Items<DeclKey>) -> Result<(), AllocError>
+    ensures { OnOk result (keys.new ≡ keys.old ++ map k.Method comparing) }
+{
+    push_of_integers(alloc, keys, b"<")?;
+    push_of_integers(alloc, keys, b"=")?;
+    push_of_strings(alloc, keys, b"=")
+}
+
+fn push_joining(alloc: Global, keys: &mut Items<DeclKey>) -> Result<(), AllocError>
+    ensures { OnOk result (keys.new ≡ keys.old ++ map k.Method joining) }
+{
+    push_of_strings(alloc, keys, b"++")?;
+    push(alloc, keys, b"==", pair(alloc, b"any", b"any")?)
+}
+
+fn push_of_one(
+    alloc: Global,
+    keys: &mut Items<DeclKey>,
+    x: &[u8],
+    specialiser: &[u8],
+) -> Result<(), AllocError>
+    ensures { OnOk result (keys.new ≡ keys.old ++ k.Method (of_one x.now specialiser.now) ∷ []) }
+{
+    push(alloc, keys, x, one(alloc, specialiser)?)
+}
+
+fn push_integer_printing(alloc: Global, keys: &mut Items<DeclKey>) -> Result<(), AllocError>
+    ensures { OnOk result (keys.new ≡ keys.old ++ k.Method (of_one (codes "print") (codes "int")) ∷ []) }
+{
+    push_of_one(alloc, keys, b"print", b"int")
+}
+
+fn push_string_printing(alloc: Global, keys: &mut Items<DeclKey>) -> Result<(), AllocError>
+    ensures { OnOk result (keys.new ≡ keys.old ++ k.Method (of_one (codes "print") (codes "string")) ∷ []) }
+{
+    push_of_one(alloc, keys, b"print", b"string")
+}
+
+fn push_printing(alloc: Global, keys: &mut Items<DeclKey>) -> Result<(), AllocError>
+    ensures { OnOk result (keys.new ≡ keys.old ++ map k.Method printing) }
+{
+    push_integer_printing(alloc, keys)?;
+    push_string_printing(alloc, keys)
+}
+
+// The evaluation of a closure with so many arguments.
+fn push_evaluation(alloc: Global, keys: &mut Items<DeclKey>, count: usize) -> Result<(), AllocError>
+    requires { count ≤ 4 }
+    ensures { OnOk result (keys.new ≡ keys.old ++ k.Method (evaluation count) ∷ []) }
+{
+    let mut specialisers = one(alloc, b"closure")?;
+    for i in 0..count {
+        specialisers.push(name_of(alloc, b"any")?)?;
+    }
+    push(alloc, keys, b"eval", specialisers)
+}
+
+fn push_evaluating(alloc: Global, keys: &mut Items<DeclKey>) -> Result<(), AllocError>
+    ensures { OnOk result (keys.new ≡ keys.old ++ map k.Method evaluating) }
+{
+    push_evaluation(alloc, keys, 0)?;
+    push_evaluation(alloc, keys, 1)?;
+    push_evaluation(alloc, keys, 2)
+}
+
+fn push_evaluating_more(alloc: Global, keys: &mut Items<DeclKey>) -> Result<(), AllocError>
+    ensures { OnOk result (keys.new ≡ keys.old ++ map k.Method evaluating_more) }
+{
+    push_evaluation(alloc, keys, 3)?;
+    push_evaluation(alloc, keys, 4)
+}
+
+fn push_looping(alloc: Global, keys: &mut Items<DeclKey>) -> Result<(), AllocError>
+    ensures { OnOk result (keys.new ≡ keys.old ++ map k.Method looping) }
+{
+    push_of_one(alloc, keys, b"loop", b"closure")
+}
