@@ -1,4 +1,5 @@
 pub mod Members
 pub mod Chains
 pub mod Lookups
+pub mod Walks
 mod Rows

@@ -5,6 +5,7 @@ mod edit;
 mod key;
 mod limits;
 mod lookup;
+mod walk;
 
 pub use edit::{Change, Counted, Edit, EditFault};
 pub use limits::{MAX_DECLARATIONS, MAX_DEPTH, MAX_LOCALS, MAX_METHODS};
