@@ -5,7 +5,9 @@ mod edit;
 mod key;
 mod limits;
 mod lookup;
+mod scope;
 mod walk;
+mod words;
 
 pub use edit::{Change, Counted, Edit, EditFault};
 pub use limits::{MAX_DECLARATIONS, MAX_DEPTH, MAX_LOCALS, MAX_METHODS};
