@@ -1,9 +1,9 @@
 -- Scopes as the code keeps them: the outermost name first.
-use Rattle.std.proofs.Common.{◌≡◌, ℕ, ◌-◌, ◌≤◌, ◌++◌, Bool, ◌||◌, ◌&&◌, List, [], ◌∷◌, Bor, map, reverse, take, drop, length, refl, sym, ap, ◌∙◌, subst, arith}
+use Rattle.std.proofs.Common.{◌≡◌, ℕ, ◌-◌, ◌++◌, Bool, ◌||◌, ◌&&◌, List, [], ◌∷◌, Bor, map, reverse, take, drop, length, refl, sym, ap, ◌∙◌}
 use Rattle.std.specs.List.{list_any}
 use Rattle.std.specs.Str.{bytes_eq}
 use Rattle.std.proofs.Math.Seq.{drop-append_seam}
-use Rattle.std.proofs.lemmas.List.{take-map, take-append-drop, reverse-append, length-reverse, length-drop, length-map}
+use Rattle.std.proofs.lemmas.List.{take-map, take-append-drop, reverse-append, length-reverse, length-drop}
 use Rattle.std.proofs.lemmas.List.Sorted.{list_any-IsPermutation, IsPermutation-reverse}
 use Rattle.vx_syntax.specs.Expressions.{Bytes, Scope, is_bound, is_variable}
 

@@ -8,6 +8,7 @@ mod lookup;
 mod scope;
 mod walk;
 mod words;
+mod written;
 
 pub use edit::{Change, Counted, Edit, EditFault};
 pub use limits::{MAX_DECLARATIONS, MAX_DEPTH, MAX_LOCALS, MAX_METHODS};
