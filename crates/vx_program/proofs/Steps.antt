@@ -1,5 +1,5 @@
 -- The turns of loops over what trees hold.
-use Rattle.std.proofs.Common.{◌≡◌, ◌++◌, ◌∙◌, ◌↔◌, refl, sym, ap, subst, true, false, ℕ, ◌+◌, ◌-◌, ◌<◌, ◌≤◌, length, List, [], ◌∷◌, drop, get_or, arith, length-append, append_assoc}
+use Rattle.std.proofs.Common.{Option, Some, None, suc, ◌≡◌, ◌++◌, ◌∙◌, ◌↔◌, refl, sym, ap, subst, Bool, true, false, ℕ, ◌+◌, ◌-◌, ◌<◌, ◌≤◌, length, List, [], ◌∷◌, drop, get_or, arith, length-append, append_assoc}
 use Rattle.std.specs.Bool.{Decides}
 use Rattle.std.specs.List.{AllByRecursion}
 use Rattle.std.proofs.Math.Seq.{drop-append_seam}
@@ -10,7 +10,7 @@ use Rattle.vx_syntax.specs.declared.expr.Stmt.{Stmt}
 use Rattle.vx_syntax.specs.declared.expr.Stmt.TheVariants as t
 use Rattle.vx_syntax.specs.Words.{IsWord}
 use Rattle.vx_syntax.specs.Expressions.{Bytes, Scope, is_among, is_back, brings, with_formals, max_field_bytes}
-use Rattle.vx_syntax.specs.Written.{IsWritten, IsStmtWritten, is_last, AreStated}
+use Rattle.vx_syntax.specs.Written.{IsWritten, IsStmtWritten, is_last, AreStated, AreFormalsWritten}
 use Rattle.vx_program.proofs.Trees.{AllFields}
 
 pub decided_no : {P : Type 0} → (P → ⊥) → Decides false P
@@ -18,6 +18,13 @@ decided_no refuted = (λ e. absurd (false≢true e), λ p. absurd (refuted p))
 
 pub decided_yes : {P : Type 0} → P → Decides true P
 decided_yes p = (λ e. p, λ q. refl)
+
+-- what needs two things is decided by the second where the first is so, and by the first where it is not
+pub by_second : {P A B : Type 0} → (P ↔ (A × B)) → A → (y : Bool) → Decides y B → Decides y P
+by_second both a y h = (λ e. both.1 (a, h.0 e), λ p. h.1 (both.0 p).1)
+
+pub by_first : {P A B : Type 0} → (P ↔ (A × B)) → (x : Bool) → x ≡ false → Decides x A → Decides x P
+by_first both x e h = (λ is. absurd (false≢true (sym e ∙ is)), λ p. h.1 (both.0 p).0)
 
 -- what is left begins with the element at the place
 pub left_at : {X : Type 0} (xs : List X) (place : ℕ) (x : X) → place < length xs → x ≡ get_or xs place x → drop place xs ≡ x ∷ drop (place + 1) xs
@@ -38,11 +45,10 @@ pub stated_more : (body : List Stmt) (place : ℕ) (a : Stmt) (start scope next 
     (AreStated body start ↔ AreStated (drop place body) scope) → IsStmtWritten a scope → (is_back a ≡ true → length body ≤ place + 1) → next ≡ brings scope a →
     AreStated body start ↔ AreStated (drop (place + 1) body) next
 stated_more body place a start scope next within is h written back after =
-    let left : drop place body ≡ a ∷ drop (place + 1) body = left_at body place a within is in
-    (
+    let left : drop place body ≡ a ∷ drop (place + 1) body = left_at body place a within is in (
       λ s. subst (λ z. AreStated (drop (place + 1) body) z) (sym after) ((subst (λ l. AreStated l scope) left (h.0 s)).2),
       λ s. h.1 (subst (λ l. AreStated l scope) (sym left)
-      (written, (λ b. last_is (drop (place + 1) body) (drop_all (place + 1) body (back b))), subst (λ z. AreStated (drop (place + 1) body) z) after s)),
+          (written, (λ b. last_is (drop (place + 1) body) (drop_all (place + 1) body (back b))), subst (λ z. AreStated (drop (place + 1) body) z) after s)),
     )
 
 -- a scope that begins as another and has names inside of it
@@ -66,3 +72,11 @@ pub outside : (start scope : Scope) (n : ℕ) → IsInside scope start → n ≡
 outside start scope n h e =
     let size : length scope - n ≡ length h.0 = omega (arith, ap length h.1, length-append h.0 start) in
     ap (λ k. drop k scope) size ∙ ap (drop (length h.0)) h.1 ∙ drop-append_seam h.0 start
+
+pub as_many : (formals : List (Option Bytes)) (specialisers : List Bytes) (scope : Scope) → AreFormalsWritten scope formals specialisers → length formals ≡ length specialisers
+as_many [] [] scope h = refl
+as_many [] (specialiser ∷ specialisers) scope h = absurd h
+as_many (Some x ∷ formals) [] scope h = absurd h
+as_many (None ∷ formals) [] scope h = absurd h
+as_many (Some x ∷ formals) (specialiser ∷ specialisers) scope h = ap suc (as_many formals specialisers ((x, false) ∷ scope) h.3)
+as_many (None ∷ formals) (specialiser ∷ specialisers) scope h = ap suc (as_many formals specialisers scope h.1)

@@ -8,6 +8,7 @@ mod lookup;
 mod scope;
 mod walk;
 mod words;
+mod writable;
 mod written;
 
 pub use edit::{Change, Counted, Edit, EditFault};

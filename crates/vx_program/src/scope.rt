@@ -9,6 +9,7 @@ use std::marker::Model;
 use vx_names::Name;
 
 /// The names in scope, which contracts see with the innermost first, each with whether it may be assigned.
+#[derive(Drop)]
 pub struct Scope<'a> {
     names: Vec<(&'a Name, bool)>,
 }

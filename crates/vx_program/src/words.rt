@@ -6,7 +6,7 @@ ghost use Rattle.vx_names.specs.Operator.{operator_of};
 ghost use Rattle.vx_syntax.specs.Words.{IsWord, IsText, is_printable};
 ghost use Rattle.vx_syntax.specs.Written.{IsLiteral, IsSent, AreNames};
 
-use vx_names::{Name, Operator, operators_are_names};
+use vx_names::{Name, Operator, Selector, operators_are_names};
 use vx_syntax::{Keyword, TEXT_BYTES, is_printable};
 
 /// The most arguments that a message has.
@@ -74,4 +74,11 @@ pub fn is_sent(name: &Name, count: usize) -> bool
         Some(_) => count == 2,
         None => is_word(name) && count <= MAX_ARGUMENTS,
     }
+}
+
+/// Whether a message of the selector may have so many arguments, and the selector says so many.
+pub fn is_selector(selector: &Selector, count: usize) -> bool
+    ensures { Decides result (IsSent (operator_of selector.now.name) selector.now.name count × (selector.now.arity ≡ count)) }
+{
+    is_sent(&selector.name, count) && selector.arity as usize == count
 }

@@ -7,8 +7,7 @@ ghost use Rattle.vx_syntax.specs.Expressions.{brings, field_names, is_among, is_
 ghost use Rattle.vx_syntax.specs.Written.{AreNew, AreStated, IsStmtWritten, IsWritten};
 
 use crate::scope::Scope;
-use crate::words::{is_literal, is_sent, is_text, is_word};
-
+use crate::words::{is_literal, is_selector, is_text, is_word};
 use std::alloc::AllocError;
 use vx_names::{Name, Selector};
 use vx_syntax::{Body, Expr, Stmt};
@@ -103,7 +102,7 @@ fn is_send_written<'a>(
     ensures decides { IfOk result (λ yes. Decides yes (IsWritten (e.Send selector.now arguments.now) scope.old)) }
     ensures scope { IfOk result (λ yes. yes ≡ true → scope.new ≡ scope.old) }
 {
-    if !is_sent(&selector.name, arguments.len()) || selector.arity as usize != arguments.len() {
+    if !is_selector(selector, arguments.len()) {
         return Ok(false);
     }
     for argument in arguments {
@@ -160,7 +159,7 @@ fn is_new_written<'a>(
     Ok(true)
 }
 
-/// Whether the names are not in scope and differ. If so, they are in scope after it, the last of them innermost.
+// Whether the names are words, are not in scope and differ. If so, they are in scope after it, the last of them innermost.
 fn are_new<'a>(names: &'a [Name], scope: &mut Scope<'a>) -> Result<bool, AllocError>
     ensures decides { IfOk result (λ yes. Decides yes (AreNew scope.old names.now)) }
     ensures scope { IfOk result (λ yes. yes ≡ true → scope.new ≡ with_formals scope.old names.now) }

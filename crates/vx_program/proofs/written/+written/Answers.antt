@@ -6,18 +6,17 @@ use Rattle.vx_syntax.specs.Written.{AreStated, IsWritten}
 use Rattle.vx_program.proofs.Trees.{sends, closes, makes, AllWritten, AllFields}
 use Rattle.vx_program.proofs.Steps.{decided_no, decided_yes, all_at, fields_at, stated_more, brings_inside, formals_inside, outside}
 use Rattle.vx_program.proofs.written.+written.Goals as goal
-use Rattle.vx_program.proofs.written.+written.Goals.{is_body_written-else-is_back-via-then-is_back+else-place-body, is_body_written-else-is_back-via-else-is_back, is_new_written-then-not-is_field_name-via-then-not-is_field_name, is_new_written-then-not-is_field_name-via-else-not-is_field_name+then-is_field, is_send_written-then-not-is_sent-via-then-not-is_sent, is_send_written-then-not-is_sent-via-else-not-is_sent+then-selector-arguments}
+use Rattle.vx_program.proofs.written.+written.Goals.{is_body_written-else-is_back-via-then-is_back+else-place-body, is_body_written-else-is_back-via-else-is_back, is_new_written-then-not-is_field_name-via-then-not-is_field_name, is_new_written-then-not-is_field_name-via-else-not-is_field_name+then-is_field}
 
 pub is_body_written-loop-place-preserved : goal.is_body_written-loop-place-preserved
 is_body_written-loop-place-preserved t c =
-    let after = c.in_ok-is_stmt_written.ensures.brings c.if-not-branch.false in
-    (
+    let after = c.in_ok-is_stmt_written.ensures.brings c.if-not-branch.false in (
       stated_more c.args.body.now c.loop-place.place c.index-body-place.result c.args.scope.now c.loop-place.scope c.is_stmt_written.new.scope c.loop-place-test.true
-      c.index-body-place.is c.loop-place.invariant.0 (c.in_ok-is_stmt_written.ensures.decides.0 c.if-not-branch.false)
-      (λ back. elim c.else-is_back.branch [
-        | is_body_written-else-is_back-via-then-is_back+else-place-body w ↦ omega arith
-        | is_body_written-else-is_back-via-else-is_back w ↦ absurd (false≢true (sym w.if-is_back.false ∙ c.is_back.ensures ∙ back))
-      ]) after,
+          c.index-body-place.is c.loop-place.invariant.0 (c.in_ok-is_stmt_written.ensures.decides.0 c.if-not-branch.false)
+          (λ back. elim c.else-is_back.branch [
+            | is_body_written-else-is_back-via-then-is_back+else-place-body w ↦ omega arith
+            | is_body_written-else-is_back-via-else-is_back w ↦ absurd (false≢true (sym w.if-is_back.false ∙ c.is_back.ensures ∙ back))
+          ]) after,
       brings_inside c.index-body-place.result c.args.scope.now c.loop-place.scope c.is_stmt_written.new.scope c.loop-place.invariant.1 after,
     )
 
@@ -48,7 +47,7 @@ pub is_new_written-returns-then-not-is_field_name-clause-decides :
     goal.is_new_written-returns-then-not-is_field_name-clause-decides
 is_new_written-returns-then-not-is_field_name-clause-decides t c = decided_no (λ h.
     let p = fields_at c.args.fields.now c.loop-place.place c.index-fields-place.result _ c.args.scope.now c.loop-place-test.true c.index-fields-place.is
-        (c.loop-place.invariant.0.0 ((makes c.args.x.now c.args.fields.now c.args.scope.now).0 h).1) in
+    (c.loop-place.invariant.0.0 ((makes c.args.x.now c.args.fields.now c.args.scope.now).0 h).1) in
     elim c.then-not-is_field_name.branch [
       | is_new_written-then-not-is_field_name-via-then-not-is_field_name w ↦ false≢true (sym w.if-not-is_field_name.true ∙ c.is_field_name.ensures.1 (p.0, p.1))
       | is_new_written-then-not-is_field_name-via-else-not-is_field_name+then-is_field w ↦ false≢true (sym p.2 ∙ sym w.is_field.ensures ∙ w.if-is_field.true)
@@ -58,7 +57,7 @@ pub is_new_written-returns-then-not-branch-clause-decides :
     goal.is_new_written-returns-then-not-branch-clause-decides
 is_new_written-returns-then-not-branch-clause-decides t c = decided_no (λ h.
     let p = fields_at c.args.fields.now c.loop-place.place c.index-fields-place.result _ c.args.scope.now c.loop-place-test.true c.index-fields-place.is
-        (c.loop-place.invariant.0.0 ((makes c.args.x.now c.args.fields.now c.args.scope.now).0 h).1) in
+    (c.loop-place.invariant.0.0 ((makes c.args.x.now c.args.fields.now c.args.scope.now).0 h).1) in
     false≢true (sym c.if-not-branch.true ∙ c.in_ok-is_expr_written.ensures.decides.1 (subst (λ s. IsWritten c.index-fields-place.result.1 s) (sym c.loop-place.invariant.1) p.3)))
 
 pub is_new_written-returns-clause-decides : goal.is_new_written-returns-clause-decides
@@ -69,28 +68,26 @@ is_new_written-returns-clause-decides t c =
       c.loop-place.invariant.0.1 (subst (λ l. AllFields l (field_names (take c.loop-place.place c.args.fields.now)) c.args.scope.now) (sym none) tt),
     ))
 
-pub is_send_written-returns-then-not-is_sent-clause-decides :
-    goal.is_send_written-returns-then-not-is_sent-clause-decides
-is_send_written-returns-then-not-is_sent-clause-decides t c = decided_no (λ h.
+pub is_send_written-returns-then-not-is_selector-clause-decides :
+    goal.is_send_written-returns-then-not-is_selector-clause-decides
+is_send_written-returns-then-not-is_selector-clause-decides t c = decided_no (λ h.
     let p = (sends c.args.selector.now c.args.arguments.now c.args.scope.now).0 h in
-    elim c.then-not-is_sent.branch [
-      | is_send_written-then-not-is_sent-via-then-not-is_sent w ↦ false≢true (sym w.if-not-is_sent.true ∙ c.is_sent.ensures.1 p.0)
-      | is_send_written-then-not-is_sent-via-else-not-is_sent+then-selector-arguments w ↦ omega (arith, p.1)
-    ])
+    false≢true (sym c.if-not-is_selector.true ∙ c.is_selector.ensures.1 (p.0, p.1)))
 
 pub is_send_written-returns-then-not-branch-clause-decides :
     goal.is_send_written-returns-then-not-branch-clause-decides
 is_send_written-returns-then-not-branch-clause-decides t c = decided_no (λ h.
     let p = (sends c.args.selector.now c.args.arguments.now c.args.scope.now).0 h in
     let one = all_at (λ a. IsWritten a c.args.scope.now) c.args.arguments.now c.loop-argument.argument-index c.argument-item.result c.loop-argument-test.true c.argument-item.is
-        (c.loop-argument.invariant.0.0 p.2) in
+    (c.loop-argument.invariant.0.0 p.2) in
     false≢true (sym c.if-not-branch.true ∙ c.in_ok-is_expr_written.ensures.decides.1 (subst (λ s. IsWritten c.argument-item.result s) (sym c.loop-argument.invariant.1) one)))
 
 pub is_send_written-returns-clause-decides : goal.is_send_written-returns-clause-decides
 is_send_written-returns-clause-decides t c =
     let none = drop_all c.loop-argument.argument-index c.args.arguments.now c.loop-argument-test.false in
+    let p = c.is_selector.ensures.0 c.if-not-is_selector.false in
     decided_yes ((sends c.args.selector.now c.args.arguments.now c.args.scope.now).1 (
-      c.is_sent.ensures.0 c.if-not-is_sent.false,
-      c.if-selector-arguments.false,
+      p.0,
+      p.1,
       c.loop-argument.invariant.0.1 (subst (AllWritten c.args.scope.now) (sym none) tt),
     ))
