@@ -4,5 +4,6 @@ pub mod Lookups
 pub mod Scopes
 pub mod Trees
 pub mod Steps
+pub mod Edits
 pub mod Walks
 mod Rows

@@ -1,5 +1,5 @@
 //! Which edits stand in some text.
-ghost use Rattle.std.specs.Prelude.{◌≡◌, ◌∷◌, [], true, length, IfOk};
+ghost use Rattle.std.specs.Prelude.{◌≡◌, ◌∷◌, [], true, List, length, IfOk};
 ghost use Rattle.std.specs.Bool.{Decides};
 ghost use Rattle.vx_names.specs.declared.key.DeclKey.TheVariants as y;
 ghost use Rattle.vx_names.specs.Operator.{operator_of};
@@ -8,7 +8,11 @@ ghost use Rattle.vx_syntax.specs.Declarations.{named};
 ghost use Rattle.vx_syntax.specs.Expressions.{is_among, with_formals};
 ghost use Rattle.vx_syntax.specs.Tests.{joining_words};
 ghost use Rattle.vx_syntax.specs.Written.{AreFormalsWritten, IsDeclWritten, IsKeyWritten, IsSent, IsStartWritten, IsTestWritten};
+ghost use Rattle.vx_syntax.specs.declared.token.Token.{Token};
+ghost use Rattle.vx_syntax.specs.Words.{AreMeant};
+ghost use Rattle.vx_program.specs.declared.edit.Change.{Change};
 ghost use Rattle.vx_program.specs.Apply.{IsChangeWritten, IsWritable};
+ghost use Rattle.vx_program.specs.Changes.{IsEdit};
 
 use crate::edit::{Change, Edit};
 use crate::scope::Scope;
@@ -16,7 +20,10 @@ use crate::words::{are_names, are_words, is_literal, is_selector, is_text, is_wo
 use crate::written::{is_body_written, is_field_name};
 use std::alloc::{AllocError, Global};
 use vx_names::{DeclKey, FieldKey, MethodKey, Name};
-use vx_syntax::{Body, Decl, Start, Test};
+use vx_syntax::{
+    Body, Decl, Start, Test, what_is_read_can_be_written, written_declarations_are_read,
+    written_keys_are_read,
+};
 
 /// Whether some block would mean the edit, if tokens might lie at any depth.
 pub fn writable(alloc: Global, edit: &Edit) -> Result<bool, AllocError>
@@ -175,4 +182,15 @@ fn is_formal_written<'a>(
             Ok(true)
         }
     }
+}
+
+/// An edit that can be written is what some tokens mean that bytes spell; and what such tokens mean as an edit can be
+/// written.
+pub fn writable_edits_are_read()
+    ensures read { (changes : List Change) → IsWritable changes → (ts : List Token) × IsEdit ts changes × AreMeant ts }
+    ensures written { (changes : List Change) (ts : List Token) → IsEdit ts changes → AreMeant ts → IsWritable changes }
+{
+    written_declarations_are_read();
+    written_keys_are_read();
+    what_is_read_can_be_written();
 }
