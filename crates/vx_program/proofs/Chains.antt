@@ -36,10 +36,12 @@ pub leads_in_more : {some more : List Decl} → ((decl : Decl) → IsIn decl som
 leads_in_more more here = here
 leads_in_more more (up decl parent i n p chain) = up decl parent (more decl i) n p (leads_in_more more chain)
 
+-- a chain behind another
 pub leads_on : {program : List Decl} {x y z : Bytes} → Leads program x y → Leads program y z → Leads program x z
 leads_on here rest = rest
 leads_on (up decl parent i n p chain) rest = up decl parent i n p (leads_on chain rest)
 
+-- what the function finds is a chain
 pub leads_is : (program : List Decl) (x y : Bytes) → leads program x y ≡ true → Leads program x y
 leads_is [] x y h = subst (λ z. Leads [] x z) (same_bytes x y h) here
 leads_is (decl ∷ decls) x y h =
@@ -52,6 +54,7 @@ leads_is (decl ∷ decls) x y h =
           (up decl r.0 (inl refl) (named_itself decl r.0 r.1) r.1 (leads_in_more (λ _ i. inr i) (leads_is decls r.0 y r.2)))
     ]
 
+-- each chain in these declarations is found
 abbrev Finds : List Decl → Type 0
 Finds program = (x y : Bytes) → Leads program x y → leads program x y ≡ true
 
@@ -93,6 +96,7 @@ none_found : {x y : Bytes} → Leads [] x y → leads [] x y ≡ true
 none_found (here {x = x}) = bytes_same x x refl
 none_found (up decl parent i n p chain) = absurd i
 
+-- the function finds each chain
 pub leads_finds : (program : List Decl) (x y : Bytes) → Leads program x y → leads program x y ≡ true
 leads_finds [] x y chain = none_found chain
 leads_finds (decl ∷ decls) x y chain = finds_more decl decls (leads_finds decls) chain
