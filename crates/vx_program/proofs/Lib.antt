@@ -14,4 +14,9 @@ pub mod KeepsPut
 pub mod Keeps
 pub mod Lookups
 pub mod FieldKeys
+pub mod Scopes
+pub mod Trees
+pub mod Steps
+pub mod Edits
+pub mod Walks
 mod Rows

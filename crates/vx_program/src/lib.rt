@@ -8,6 +8,11 @@ mod lookup;
 mod occupied;
 mod prelude;
 mod reserved;
+mod scope;
+mod walk;
+mod words;
+mod writable;
+mod written;
 
 pub use edit::{Change, Counted, Edit, EditFault};
 pub use limits::{MAX_DECLARATIONS, MAX_DEPTH, MAX_LOCALS, MAX_METHODS};

@@ -25,10 +25,12 @@ pub fn written_keys_are_read()
     ensures meant { (key : DeclKey) (us : List Token) → IsKeyWritten key → AreMeant us → AreMeant (printed_key key us) }
 {}
 
-/// What tokens that bytes spell mean as a declaration or as a key can be written.
+/// What tokens that bytes spell mean as a declaration or as a key can be written, and bytes spell the tokens that follow.
 pub fn what_is_read_can_be_written()
     ensures decl { (decl : Decl) (ts us : List Token) → IsDecl ts us decl → AreMeant ts → IsDeclWritten decl }
+    ensures decl_rest { (decl : Decl) (ts us : List Token) → IsDecl ts us decl → AreMeant ts → AreMeant us }
     ensures key { (key : DeclKey) (ts us : List Token) → IsKey ts us key → AreMeant ts → IsKeyWritten key }
+    ensures key_rest { (key : DeclKey) (ts us : List Token) → IsKey ts us key → AreMeant ts → AreMeant us }
 {
     operators_are_names();
 }
