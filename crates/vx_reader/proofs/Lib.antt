@@ -11,3 +11,10 @@ mod OneToken
 mod Answered
 mod GreatNumbers
 mod Readers
+mod Cuts
+mod CutSigns
+mod CutWords
+mod CutStrings
+mod CutTrees
+mod CutDecls
+mod Canonical
