@@ -1,6 +1,6 @@
 -- The answer to a block is how it is read, and it is read in no other way.
 use Rattle.std.proofs.Common.{◌≡◌, ℕ, zero, suc, ◌+◌, ◌<◌, ◌≤◌, ◌^◌, Bool, true, false, if◌then◌else◌, inl, inr, List, [], ◌∷◌, ◌++◌, length, take, slice_get, Option, Some, None, Result, Ok, Err, refl, sym, ap, subst, ◌∙◌, arith, append_assoc, append-nil, length-append}
-use Rattle.std.proofs.lemmas.Bool.{ltb-true, ltb-false, lt-ltb, le-ltb}
+use Rattle.std.proofs.lemmas.Bool.{ltb-true, ltb-false}
 use Rattle.std.specs.Prelude.{nat_lt}
 use Rattle.vx_syntax.specs.declared.token.Token.{Token}
 use Rattle.vx_syntax.specs.Depth.{max_depth, first_levels, counted, depth, levels_after, IsShallow}
@@ -16,6 +16,8 @@ use Rattle.vx_reader.specs.CommandMachine.{command_step, command_finished, run_f
 use Rattle.vx_reader.specs.Reads.{is_large, AreSmall, IsStuck, IsFine, IsAt, up_to, Means, AreRead, Reads, ended, reading, answer}
 use Rattle.vx_reader.proofs.Steps.{Laws, at_end, whole}
 use Rattle.vx_reader.proofs.Courses.{run_means, led, stuck, goes}
+use Rattle.vx_reader.proofs.Options.{none_from}
+use Rattle.vx_reader.proofs.OneToken.{syntax_read, deep_read, large_read, fine_read}
 
 -- tokens one by one
 levels_push : (levels : List ℕ) (ts : List Token) (t : Token) → levels_after levels (ts ++ t ∷ []) ≡ counted (levels_after levels ts) t
@@ -200,33 +202,14 @@ module _ (laws : Laws) where
       AreSmall (without_places done) → reading len first levels (done ++ rest) ≡ reading len s (levels_after levels (without_places done)) rest
   passes len [] rest first s levels is low small = ap (λ u. reading len u levels rest) (let f : first ≡ s = cc in f)
   passes len (p ∷ done) rest first s levels is low small =
-      stepped (command_step first p.token) is (λ next is. passes len done rest next s (counted levels p.token) is low.1 small.1)
+      let first_step = stepped (command_step first p.token) refl is in
+      fine_read len first levels p (done ++ rest) first_step.0 first_step.1 low.0 small.0
+      ∙ passes len done rest first_step.0 s (counted levels p.token) first_step.2 low.1 small.1
     where
-      further : State → Type 0
-      further next = run_from next (without_places done) ≡ Some s →
-          reading len next (counted levels p.token) (done ++ rest) ≡ reading len s (levels_after (counted levels p.token) (without_places done)) rest
-
-      unsized : (b : Bool) (next : State) → b ≡ false → reading len next (counted levels p.token) (done ++ rest) ≡
-          (if b then Err (f.NumberTooLarge p.place) else reading len next (counted levels p.token) (done ++ rest))
-      unsized true next is = absurd (cc is)
-      unsized false next is = refl
-
-      undeep : (b : Bool) (next : State) → b ≡ false → reading len next (counted levels p.token) (done ++ rest) ≡
-          (if b then Err (f.TooDeep p.place) else if is_large p.token then Err (f.NumberTooLarge p.place) else reading len next (counted levels p.token) (done ++ rest))
-      undeep true next is = absurd (cc is)
-      undeep false next is = unsized (is_large p.token) next small.0
-
-      stepped : (o : Option State) → elim o [ None ↦ None | Some state ↦ run_from state (without_places done) ] ≡ Some s → ((next : State) → further next) →
-          elim o [
-            | None ↦ Err (f.Syntax p.place)
-            | Some next ↦
-                if nat_lt max_depth (depth (counted levels p.token)) then Err (f.TooDeep p.place) else
-                if is_large p.token then Err (f.NumberTooLarge p.place) else
-                reading len next (counted levels p.token) (done ++ rest)
-          ] ≡ reading len s (levels_after (counted levels p.token) (without_places done)) rest
-      stepped None is more = absurd (cc is)
-      stepped (Some next) is more =
-          sym (undeep (nat_lt max_depth (depth (counted levels p.token))) next (le-ltb max_depth (depth (counted levels p.token)) low.0)) ∙ more next is
+      stepped : (o : Option State) → command_step first p.token ≡ o → elim o [ None ↦ None | Some state ↦ run_from state (without_places done) ] ≡ Some s →
+          (next : State) × (command_step first p.token ≡ Some next) × (run_from next (without_places done) ≡ Some s)
+      stepped None step is = absurd (cc is)
+      stepped (Some next) step is = (next, step, is)
 
   -- the tokens around a place
   record Around (placed : List Placed) (count : ℕ) (p : Placed) : Type 0 where
@@ -277,43 +260,11 @@ module _ (laws : Laws) where
         comes = ap (reading len st.Start first_levels) a.split ∙ passes len a.done (p ∷ a.rest) st.Start found.0 first_levels half.led_to half.shallow half.small;
       }
 
-  none_stepped : (s : State) (p : Placed) (len : ℕ) (levels : List ℕ) (rest : List Placed) (o : Option State) → command_step s p.token ≡ o →
-      ((next : State) → o ≡ Some next → ⊥) → reading len s levels (p ∷ rest) ≡ Err (f.Syntax p.place)
-  none_stepped s p len levels rest None is none =
-      ap (λ o. elim o [
-        | None ↦ Err (f.Syntax p.place)
-        | Some next ↦
-            if nat_lt max_depth (depth (counted levels p.token)) then Err (f.TooDeep p.place) else
-            if is_large p.token then Err (f.NumberTooLarge p.place) else
-            reading len next (counted levels p.token) rest
-      ]) is
-  none_stepped s p len levels rest (Some next) is none = absurd (none next refl)
-
-  some_stepped : (s next : State) (p : Placed) (len : ℕ) (levels : List ℕ) (rest : List Placed) → command_step s p.token ≡ Some next →
-      reading len s levels (p ∷ rest) ≡ (if nat_lt max_depth (depth (counted levels p.token)) then Err (f.TooDeep p.place) else
-      if is_large p.token then Err (f.NumberTooLarge p.place) else reading len next (counted levels p.token) rest)
-  some_stepped s next p len levels rest is =
-      ap (λ o. elim o [
-        | None ↦ Err (f.Syntax p.place)
-        | Some next ↦
-            if nat_lt max_depth (depth (counted levels p.token)) then Err (f.TooDeep p.place) else
-            if is_large p.token then Err (f.NumberTooLarge p.place) else
-            reading len next (counted levels p.token) rest
-      ]) is
-
   -- a step that some command goes on with
   next_of : (done : List Placed) (s : State) (token : Token) → Halfway done s → GoesOn (without_places done ++ token ∷ []) → (next : State) × (command_step s token ≡ Some next)
   next_of done s token h on =
       let found = led laws (without_places done ++ token ∷ []) on.more on.command on.means in
       (found.0, sym (run_push (without_places done) token st.Start s h.led_to) ∙ found.1)
-
-  if_yes : {X : Type 0} (b : Bool) (x y : X) → b ≡ true → (if b then x else y) ≡ x
-  if_yes true x y e = refl
-  if_yes false x y e = absurd (cc e)
-
-  if_no : {X : Type 0} (b : Bool) (x y : X) → b ≡ false → (if b then x else y) ≡ y
-  if_no true x y e = absurd (cc e)
-  if_no false x y e = refl
 
   pub alike : (placed : List Placed) (len : ℕ) (a : Result Command ReadFault) → length placed < 2 ^ 64 → AreRead placed len a → reading len st.Start first_levels placed ≡ a
   alike placed len (Ok v) short h =
@@ -322,11 +273,11 @@ module _ (laws : Laws) where
       ∙ ap (ended len) (at_end laws found.0 v found.2)
   alike placed len (Err (f.Syntax place)) short (inl h) =
       let c = come len placed place h.at in
-      c.comes ∙ none_stepped c.state (record { token = h.at.token; place = place }) len (levels_after first_levels (without_places c.done)) c.rest
-      (command_step c.state h.at.token) refl (λ next is.
+      c.comes ∙ syntax_read len c.state (levels_after first_levels (without_places c.done)) (record { token = h.at.token; place = place }) c.rest
+      (none_from (command_step c.state h.at.token) (λ next is.
       let on = goes_next c.done c.rest (record { token = h.at.token; place = place }) c.state next c.halfway is (subst (λ l. length l < 2 ^ 64) c.split short) in
       let upto = subst GoesOn (take_next c.done c.rest (record { token = h.at.token; place = place }) ∙ sym c.upto) on in
-      h.here upto.more upto.command upto.means)
+      h.here upto.more upto.command upto.means))
   alike placed len (Err (f.Syntax place)) short (inr h) =
       let on = subst GoesOn (take_all (without_places placed)) h.0.before.goes_on in
       let found = led laws (without_places placed) on.more on.command on.means in
@@ -345,19 +296,14 @@ module _ (laws : Laws) where
       let c = come len placed place h.at in
       let p : Placed = record { token = h.at.token; place = place } in
       let next = next_of c.done c.state h.at.token c.halfway (subst GoesOn c.upto h.here) in
-      let levels = levels_after first_levels (without_places c.done) in
-      c.comes ∙ some_stepped c.state next.0 p len levels c.rest next.1
-      ∙ if_yes _ _ _ (lt-ltb max_depth (depth (counted levels p.token))
-      (subst (λ l. max_depth < depth l) (ap (levels_after first_levels) c.upto ∙ levels_push first_levels (without_places c.done) p.token) h.deep))
+      c.comes ∙ deep_read len c.state (levels_after first_levels (without_places c.done)) p c.rest next.0 next.1
+      (subst (λ l. max_depth < depth l) (ap (levels_after first_levels) c.upto ∙ levels_push first_levels (without_places c.done) p.token) h.deep)
   alike placed len (Err (f.NumberTooLarge place)) short h =
       let c = come len placed place h.at in
       let p : Placed = record { token = h.at.token; place = place } in
       let next = next_of c.done c.state h.at.token c.halfway (subst GoesOn c.upto h.here) in
-      let levels = levels_after first_levels (without_places c.done) in
-      c.comes ∙ some_stepped c.state next.0 p len levels c.rest next.1
-      ∙ if_no _ _ _ (le-ltb max_depth (depth (counted levels p.token))
-      (subst (λ l. depth l ≤ max_depth) (ap (levels_after first_levels) c.upto ∙ levels_push first_levels (without_places c.done) p.token) h.shallow))
-      ∙ if_yes _ _ _ h.large
+      c.comes ∙ large_read len c.state (levels_after first_levels (without_places c.done)) p c.rest next.0 next.1
+      (subst (λ l. depth l ≤ max_depth) (ap (levels_after first_levels) c.upto ∙ levels_push first_levels (without_places c.done) p.token) h.shallow) h.large
   alike placed len (Err f.OutOfMemory) short h = absurd h
 
   pub one_reading_of : (bytes : List ℕ) (a b : Result Command ReadFault) → length bytes < 2 ^ 64 → Reads bytes a → Reads bytes b → a ≡ b

@@ -1,3 +1,4 @@
+mod Options
 mod Runs
 mod Numbers
 mod Texts
@@ -6,6 +7,14 @@ mod Places
 mod Rows
 mod Steps
 mod Courses
+mod OneToken
 mod Answered
 mod GreatNumbers
 mod Readers
+mod Cuts
+mod CutSigns
+mod CutWords
+mod CutStrings
+mod CutTrees
+mod CutDecls
+mod Canonical

@@ -13,7 +13,7 @@ capped n d cap = omega arith
 digit_is : (d : ℕ) → 48 ≤ d → d ≤ 57 → digit_value d ≡ d - 48
 digit_is d low high = let e = digit_value_digit d (low, high) in omega (arith, e)
 
-in_range : (d : ℕ) → is_ascii_digit d ≡ true → (48 ≤ d) × (d ≤ 57)
+pub in_range : (d : ℕ) → is_ascii_digit d ≡ true → (48 ≤ d) × (d ≤ 57)
 in_range d e = (grind (arith, nat_tests), grind (arith, nat_tests))
 
 -- one more digit

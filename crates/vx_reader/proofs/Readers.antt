@@ -3,7 +3,7 @@ use Rattle.std.proofs.Common.{◌≡◌, ℕ, suc, ◌+◌, ◌<◌, ◌≤◌, 
 use Rattle.std.specs.Prelude.{slice_index_or}
 use Rattle.std.proofs.Math.Seq.{drop-cons}
 use Rattle.std.proofs.lemmas.List.{drop_all}
-use Rattle.vx_syntax.specs.Depth.{first_levels, depth}
+use Rattle.vx_syntax.specs.Depth.{max_depth, first_levels, depth}
 use Rattle.vx_reader.specs.declared.token.Placed.{Placed}
 use Rattle.vx_reader.specs.declared.levels.Levels.{Levels}
 use Rattle.vx_reader.specs.declared.reader.Progress.{Progress}
@@ -20,7 +20,7 @@ use Rattle.vx_reader.specs.Reads.{ended, reading, answer, Reads, Says}
 -- after so many tokens the answer is what the reader answers from here on
 pub record Reading (bytes : List ℕ) (placed : List Placed) (i : ℕ) (progress : Progress) : Type 0 where
   pub adds : Adds progress.levels
-  pub low : progress.levels.depth ≤ 512
+  pub low : progress.levels.depth ≤ max_depth
   pub reads : answer bytes ≡ reading (length bytes) progress.state (all progress.levels) (drop i placed)
 
 pub at_start : (bytes : List ℕ) (placed : List Placed) (levels : Levels) → placed ≡ placed_tokens bytes → all levels ≡ first_levels → Adds levels →

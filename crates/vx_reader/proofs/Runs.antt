@@ -1,5 +1,5 @@
 -- Runs of bytes at the front of a list.
-use Rattle.std.proofs.Common.{◌≡◌, ℕ, zero, suc, ◌<◌, ◌≤◌, Bool, true, false, cond, List, [], ◌∷◌, length, take, get_or, take_while, refl, sym, ap, subst, arith}
+use Rattle.std.proofs.Common.{◌≡◌, ℕ, zero, suc, ◌<◌, ◌≤◌, Bool, true, false, cond, List, [], ◌∷◌, ◌++◌, length, take, get_or, take_while, refl, sym, ap, subst, arith}
 use Rattle.std.specs.List.{AllByRecursion, AllPass}
 use Rattle.std.proofs.lemmas.List.Folds.{length-prefix_len}
 use Rattle.std.proofs.lemmas.List.Sums.{prefix_len-le-length, take_while-cons}
@@ -45,3 +45,14 @@ letter_and_run (b ∷ bs) some e =
 -- a letter begins a run of letters and digits
 pub letter_some : (bytes : List ℕ) → 0 < length bytes → is_letter (get_or bytes 0 0) ≡ true → 0 < length (take_while is_word_byte bytes)
 letter_some bytes some e = run_some is_word_byte bytes some (rw e refl)
+
+-- no bytes, or ones whose first does not pass the test
+abbrev pub Stops : (ℕ → Bool) → List ℕ → Type 0
+Stops p [] = Unit {0}
+Stops p (b ∷ bs) = p b ≡ false
+
+-- a run is what passes in front of bytes that stop it
+pub run_is : (p : ℕ → Bool) (xs rest : List ℕ) → AllByRecursion (λ c. p c ≡ true) xs → Stops p rest → take_while p (xs ++ rest) ≡ xs
+run_is p [] [] all stops = refl
+run_is p [] (b ∷ bs) all stops = rw (take_while-cons p b bs, stops) refl
+run_is p (x ∷ xs) rest all stops = rw (take_while-cons p x (xs ++ rest), all.0) (ap (λ run. x ∷ run) (run_is p xs rest all.1 stops))

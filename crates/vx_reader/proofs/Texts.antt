@@ -19,13 +19,13 @@ pub record Halfway (bytes value : List ℕ) (n : ℕ) (escaped : Bool) : Type 0 
   pub few : length value ≤ TEXT_BYTES
 
 -- what a byte gives, by what it is
-abbrev by_byte : StringByte → ℕ → List ℕ → Option Quoted
+abbrev pub by_byte : StringByte → ℕ → List ℕ → Option Quoted
 by_byte Closing b bs = Some (record { value = []; len = 1 })
 by_byte Backslash b bs = behind_backslash (quoted_behind true bs)
 by_byte Held b bs = holding b (quoted_behind false bs)
 by_byte Wrong b bs = None
 
-by_byte_is : (escaped : Bool) (b : ℕ) (bs : List ℕ) (is : StringByte) → string_byte escaped b ≡ is → quoted_behind escaped (b ∷ bs) ≡ by_byte is b bs
+pub by_byte_is : (escaped : Bool) (b : ℕ) (bs : List ℕ) (is : StringByte) → string_byte escaped b ≡ is → quoted_behind escaped (b ∷ bs) ≡ by_byte is b bs
 by_byte_is escaped b bs Closing e = rw (e, quoted_behind) refl
 by_byte_is escaped b bs Backslash e = rw (e, quoted_behind) refl
 by_byte_is escaped b bs Held e = rw (e, quoted_behind) refl

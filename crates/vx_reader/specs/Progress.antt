@@ -2,6 +2,7 @@
 use Rattle.std.specs.Prelude.{◌≡◌, ℕ, ◌≤◌, ◌^◌, ◌-◌, if◌then◌else◌, List, ◌∷◌, Err}
 use Rattle.vx_syntax.specs.declared.token.Token.{Token}
 use Rattle.vx_syntax.specs.declared.token.Token.TheVariants as k
+use Rattle.vx_syntax.specs.Depth.{max_depth}
 use Rattle.vx_reader.specs.declared.token.Placed.{Placed}
 use Rattle.vx_reader.specs.declared.command.ReadFault.{ReadFault}
 use Rattle.vx_reader.specs.declared.command.ReadFault.TheVariants as f
@@ -16,7 +17,7 @@ fitted token = if is_large token then k.Number (2 ^ 127 - 1) else token
 -- The reader goes on from where the token leads.
 pub record Follows (before : Progress) (placed : Placed) (next : Progress) : Type 0 where
   pub adds : Adds next.levels
-  pub low : next.levels.depth ≤ 512
+  pub low : next.levels.depth ≤ max_depth
   pub reads : (len : ℕ) (rest : List Placed) → reading len before.state (all before.levels) (placed ∷ rest) ≡ reading len next.state (all next.levels) rest
 
 -- The reader answers the fault, whatever tokens follow, unless memory ran out.

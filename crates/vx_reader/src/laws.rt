@@ -1,6 +1,12 @@
-ghost use Rattle.std.specs.Prelude.{◌≡◌, ◌+◌, ◌<◌, ◌≤◌, ◌^◌, ℕ, List, length, Result, is_none};
+ghost use Rattle.std.specs.Prelude.{◌≡◌, ◌+◌, ◌<◌, ◌≤◌, ◌^◌, ℕ, List, ◌∷◌, [], ◌++◌, codes, length, Ok, Result, is_none};
+ghost use Rattle.vx_syntax.specs.declared.decl.Decl.{Decl};
 ghost use Rattle.vx_syntax.specs.declared.token.Token.TheVariants.{Number};
+ghost use Rattle.vx_syntax.specs.Counts.{height};
+ghost use Rattle.vx_syntax.specs.Print.{decl_text};
+ghost use Rattle.vx_syntax.specs.Written.{IsDeclWritten};
+ghost use Rattle.vx_program.specs.declared.edit.Change.TheVariants.{Add};
 ghost use Rattle.vx_reader.specs.declared.command.Command.{Command};
+ghost use Rattle.vx_reader.specs.declared.command.Command.TheVariants.{Edit};
 ghost use Rattle.vx_reader.specs.declared.command.ReadFault.{ReadFault};
 ghost use Rattle.vx_reader.specs.declared.state.State.{State};
 ghost use Rattle.vx_reader.specs.CommandMachine.{command_step};
@@ -10,6 +16,7 @@ use vx_phrases::{
     decl_steps_follow_the_grammar, decls_can_be_finished, decls_end_before_others,
     key_steps_follow_the_grammar,
 };
+use vx_syntax::{canonical_tokens_are_shallow, written_declarations_are_read};
 
 /// Each block is read in one way, the reader's answer.
 pub fn every_block_is_read()
@@ -38,4 +45,14 @@ pub fn great_numbers_are_alike()
 {
     decl_steps_follow_the_grammar();
     key_steps_follow_the_grammar();
+}
+
+/// The canonical text of a declaration that can be written and is not higher than 64, behind `add` and a blank, is a
+/// block that adds that declaration.
+pub fn canonical_additions_are_read()
+    ensures { (decl : Decl) → IsDeclWritten decl → height decl ≤ 64 →
+        Reads (codes "add " ++ decl_text decl) (Ok (Edit (record { changes = Add decl ∷ [] }))) }
+{
+    written_declarations_are_read();
+    canonical_tokens_are_shallow();
 }

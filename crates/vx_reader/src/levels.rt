@@ -40,7 +40,7 @@ impl Levels {
     // A bracket opens a level.
     fn open(mut self) -> Result<Levels, AllocError>
         requires adds { Adds self }
-        requires low { self.depth ≤ 512 }
+        requires low { self.depth ≤ spec.max_depth }
         ensures all { IfOk result (λ levels. all levels ≡ 0 ∷ all self) }
         ensures adds { IfOk result Adds }
     {
@@ -77,7 +77,7 @@ impl Levels {
     // One more operator.
     fn one_more(mut self) -> Levels
         requires adds { Adds self }
-        requires low { self.depth ≤ 512 }
+        requires low { self.depth ≤ spec.max_depth }
         ensures all { all result ≡ spec.one_more (all self) }
         ensures adds { Adds result }
     {
@@ -101,7 +101,7 @@ impl Levels {
 
     fn word(self, name: &Name) -> Levels
         requires adds { Adds self }
-        requires low { self.depth ≤ 512 }
+        requires low { self.depth ≤ spec.max_depth }
         ensures all { all result ≡ spec.word_counted (all self) (is_among joining_words name.now) (is_among spec.changing_words name.now) }
         ensures adds { Adds result }
     {
@@ -129,7 +129,7 @@ impl Levels {
 
     fn mark(self, mark: Mark) -> Result<Levels, AllocError>
         requires adds { Adds self }
-        requires low { self.depth ≤ 512 }
+        requires low { self.depth ≤ spec.max_depth }
         ensures all { IfOk result (λ levels. all levels ≡ spec.mark_counted (all self) mark) }
         ensures adds { IfOk result Adds }
     {
@@ -144,7 +144,7 @@ impl Levels {
     /// The levels at a token, which counts from its own place on.
     pub fn at(self, token: &Token) -> Result<Levels, AllocError>
         requires adds { Adds self }
-        requires low { self.depth ≤ 512 }
+        requires low { self.depth ≤ spec.max_depth }
         ensures all { IfOk result (λ levels. all levels ≡ spec.counted (all self) token.now) }
         ensures adds { IfOk result Adds }
     {

@@ -17,7 +17,7 @@ mod token;
 mod tokenizer;
 
 pub use command::{Command, ReadFault};
-pub use laws::{every_block_is_read, great_numbers_are_alike, one_reading};
+pub use laws::{canonical_additions_are_read, every_block_is_read, one_reading};
 pub use reader::read_block;
 pub use token::Placed;
 pub use tokenizer::tokens;

@@ -1,5 +1,6 @@
 ghost use Rattle.std.specs.Prelude.{◌≡◌, ◌≤◌, length, IfOk, IfErr};
 ghost use Rattle.vx_bodies.specs.Machine.{IsSmall};
+ghost use Rattle.vx_syntax.specs.Depth.{max_depth};
 ghost use Rattle.vx_reader.specs.CommandMachine as machine;
 ghost use Rattle.vx_reader.specs.OpenLevels.{Adds};
 ghost use Rattle.vx_reader.specs.Progress.{fitted, Follows, Refuses};
@@ -64,7 +65,7 @@ pub struct Progress {
 // One token more, or the fault at its place.
 fn after(alloc: Global, progress: Progress, placed: &Placed) -> Result<Progress, ReadFault>
     requires adds { Adds progress.levels }
-    requires low { progress.levels.depth ≤ 512 }
+    requires low { progress.levels.depth ≤ max_depth }
     ensures next { IfOk result (Follows progress placed.now) }
     ensures fault { IfErr result (Refuses progress placed.now) }
 {
