@@ -6,3 +6,4 @@ mod Finish
 mod Ends
 mod Scopes
 mod Index
+mod FieldNames

@@ -5,6 +5,7 @@ ghost use Rattle.vx_bodies.specs.Machine as spec;
 
 use crate::arguments::Arguments;
 use crate::declared::Declared;
+use crate::fields::Fields;
 use crate::operators::{no_pending, operated, sent, value};
 use crate::stack::Stack;
 use crate::state::{Block, Bracket, Kind, Level, Next, Part, Pending, State, Within};
@@ -227,7 +228,7 @@ fn after_paren(pending: Pending, a: Expr, within: Within, token: Token) -> Next
 struct Construction {
     pending: Pending,
     parent: Name,
-    given: Items<(Name, Expr)>,
+    given: Fields,
     field: Name,
 }
 
@@ -238,29 +239,35 @@ fn last_field(construction: Construction, a: Expr, within: Within) -> Result<Nex
     let Construction {
         pending,
         parent,
-        mut given,
+        given,
         field,
     } = construction;
-    given.push((field, a))?;
+    let given = given.with_last(field, a)?;
     Ok(Next::On(State::Operated(pending, Expr::New(parent, given), within)))
 }
 
 #[tactic(auto, unfolding(crate::specs::Machine::ended))]
-fn next_field(construction: Construction, a: Expr, within: Within) -> Result<Next, AllocError>
+fn next_field(
+    alloc: Global,
+    construction: Construction,
+    a: Expr,
+    within: Within,
+) -> Result<Next, AllocError>
     ensures { IfOk result (λ next. next ≡ spec.ended (Bracket.Fields construction.pending construction.parent construction.given construction.field ∷ within.brackets) within.kind within.block a (Token.Mark Mark.Comma)) }
 {
     let Construction {
         pending,
         parent,
-        mut given,
+        given,
         field,
     } = construction;
-    given.push((field, a))?;
+    let given = given.with(alloc, field, a)?;
     Ok(Next::On(State::Inside(Part::Field(parent, given), pending, within)))
 }
 
 #[tactic(auto, unfolding(crate::specs::Machine::ended))]
 fn after_field(
+    alloc: Global,
     construction: Construction,
     a: Expr,
     within: Within,
@@ -270,12 +277,13 @@ fn after_field(
 {
     match token {
         Token::Mark(Mark::CloseBlock) => last_field(construction, a, within),
-        Token::Mark(Mark::Comma) => next_field(construction, a, within),
+        Token::Mark(Mark::Comma) => next_field(alloc, construction, a, within),
         token => Ok(stuck((construction, a, within, token))),
     }
 }
 
 fn after_bracket(
+    alloc: Global,
     bracket: Bracket,
     a: Expr,
     within: Within,
@@ -296,6 +304,7 @@ fn after_bracket(
             token,
         ),
         Bracket::Fields(pending, parent, given, field) => after_field(
+            alloc,
             Construction {
                 pending,
                 parent,
@@ -329,7 +338,7 @@ fn ended(alloc: Global, a: Expr, within: Within, token: Token) -> Result<Next, A
                 kind,
                 block,
             };
-            after_bracket(bracket, a, within, token)
+            after_bracket(alloc, bracket, a, within, token)
         }
     }
 }

@@ -3,14 +3,12 @@ ghost use Rattle.std.specs.Prelude.{◌≡◌, IfOk};
 ghost use Rattle.vx_bodies.specs.Machine as spec;
 
 use crate::after::{after_operand, bracketed, stuck};
-use crate::scope::is_field;
+use crate::fields::Fields;
 use crate::state::{Bracket, Next, Part, Pending, State, Within};
 use sqlite_items::Items;
 use std::alloc::{AllocError, Global};
 use vx_names::{FIELD_NAME_BYTES, Name};
 use vx_syntax::{Expr, Keyword, Mark, Token};
-
-type Fields = Items<(Name, Expr)>;
 
 /// After `object`.
 #[tactic(auto, unfolding(crate::specs::Machine::object))]
@@ -65,7 +63,7 @@ pub fn parent(
 fn field(parent: Name, given: Fields, f: Name, pending: Pending, within: Within) -> Next
     ensures { result ≡ spec.field parent given f pending within }
 {
-    if f.bytes().len() > FIELD_NAME_BYTES || is_field(given.as_slice(), f.bytes()) {
+    if f.bytes().len() > FIELD_NAME_BYTES || given.has(&f) {
         stuck((parent, given, f, pending, within))
     } else {
         Next::On(State::Inside(Part::FieldName(parent, given, f), pending, within))
@@ -89,7 +87,7 @@ pub fn first_field(
             Expr::New(parent, Items::new(alloc)),
             within,
         )),
-        Token::Word(f) => field(parent, Items::new(alloc), f, pending, within),
+        Token::Word(f) => field(parent, Fields::new(alloc), f, pending, within),
         token => stuck((parent, pending, within, token)),
     }
 }

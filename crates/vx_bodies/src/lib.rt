@@ -6,6 +6,7 @@ mod arguments;
 mod closure;
 mod constructor;
 mod declared;
+mod fields;
 mod laws;
 mod machine;
 mod operand;
@@ -17,6 +18,7 @@ mod statement;
 
 pub use arguments::Arguments;
 pub use declared::Declared;
+pub use fields::Fields;
 pub use laws::{
     bodies_begin, names_come_singly, numbers_are_alike, states_can_be_finished,
     steps_follow_the_grammar,

@@ -1,13 +1,12 @@
 //! The names in scope.
 ghost use Rattle.std.specs.Prelude.{◌≡◌, ◌||◌, ◌&&◌, not};
-ghost use Rattle.vx_syntax.specs.Expressions.{is_among, is_bound, is_variable, field_names, with_formals};
+ghost use Rattle.vx_syntax.specs.Expressions.{is_among, is_bound, is_variable, with_formals};
 ghost use Rattle.vx_bodies.specs.Machine.{block_scope, outer_scope};
 ghost use Rattle.vx_bodies.specs.Scopes.{is_listed};
 
 use crate::stack::Stack;
 use crate::state::{Block, Level};
 use vx_names::Name;
-use vx_syntax::Expr;
 
 /// Whether the name is one of these.
 pub fn is_among(names: &[Name], x: &[u8]) -> bool
@@ -15,18 +14,6 @@ pub fn is_among(names: &[Name], x: &[u8]) -> bool
 {
     for name in names {
         if name.bytes() == x {
-            return true;
-        }
-    }
-    false
-}
-
-/// Whether one of the fields has the name.
-pub fn is_field(fields: &[(Name, Expr)], x: &[u8]) -> bool
-    ensures { result ≡ is_among (field_names fields.now) x.now }
-{
-    for field in fields {
-        if field.0.bytes() == x {
             return true;
         }
     }

@@ -1,6 +1,7 @@
 //! What the machine holds between two tokens.
 use crate::arguments::Arguments;
 use crate::declared::Declared;
+use crate::fields::Fields;
 use crate::stack::Stack;
 use sqlite_items::Items;
 use vx_names::{Name, Operator};
@@ -28,7 +29,7 @@ pub enum Bracket {
     /// A call: its name, and the arguments before the one that is read.
     Arguments(Pending, Name, Arguments),
     /// A constructor: its parent, the fields before the one that is read, and that one's name.
-    Fields(Pending, Name, Items<(Name, Expr)>, Name),
+    Fields(Pending, Name, Fields, Name),
 }
 
 /// What becomes of the expression that makes a statement.
@@ -98,9 +99,9 @@ pub enum Part {
     /// `object isa name {`
     FirstField(Name),
     /// `object isa name { .. ,`, with the fields so far
-    Field(Name, Items<(Name, Expr)>),
+    Field(Name, Fields),
     /// `object isa name { .. field`, with the fields before this one
-    FieldName(Name, Items<(Name, Expr)>, Name),
+    FieldName(Name, Fields, Name),
     /// `resend`
     Resend,
     /// `resend (`

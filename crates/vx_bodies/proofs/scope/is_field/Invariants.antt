@@ -1,6 +1,0 @@
-use Rattle.std.proofs.Common.{◌≡◌, drop}
-use Rattle.vx_syntax.specs.Expressions.{is_among, field_names}
-use Rattle.vx_bodies.proofs.scope.is_field.Given as goal
-
-abbrev pub invariant-loop-field : goal.invariant-loop-field
-invariant-loop-field l = is_among (field_names l.fields) l.x ≡ is_among (field_names (drop l.field-index l.fields)) l.x
