@@ -20,6 +20,7 @@ use Rattle.vx_syntax.specs.Print.{joined, listed, braced, send_text, call_text, 
 use Rattle.vx_syntax.specs.PrintedTokens.{printed, printed_arguments, printed_more, printed_operands, printed_fields, printed_more_fields, printed_formals, printed_more_names, printed_body, printed_next, printed_stmt, printed_statements, printed_more_statements}
 use Rattle.vx_syntax.specs.Written.{count, IsSent, AreNew, IsWritten, AreWritten, AreFieldsWritten, IsBodyWritten, IsStmtWritten, AreStated}
 use Rattle.vx_syntax.proofs.Views.{send_is, closure_is, new_is}
+use Rattle.vx_syntax.proofs.Meant.{new_words}
 use Rattle.vx_syntax.proofs.Layers as l
 use Rattle.vx_syntax.proofs.Texts.{text_of_send, text_of_closure, text_of_new, text_of_resend}
 use Rattle.vx_reader.specs.Tokens.{front}
@@ -54,11 +55,6 @@ more_names_cut (x ∷ xs) h =
 
 pub names_cut : (x : Bytes) (xs : List Bytes) → IsWord x → AllByRecursion IsWord xs → Cuts Ends (listed (x ∷ xs)) (λ us. k.Word x ∷ printed_more_names xs us)
 names_cut x xs first others = behind (word_cut x first) (more_names_cut xs others) (λ rest ends. joined_ends 44 (32 ∷ []) xs rest refl ends)
-
--- the formals of a closure are words
-new_words : (scope : Scope) (xs : List Bytes) → AreNew scope xs → AllByRecursion IsWord xs
-new_words scope [] h = tt
-new_words scope (x ∷ xs) h = (h.0, new_words ((x, false) ∷ scope) xs h.2)
 
 -- what stands between braces
 braces_cut : {text : Bytes} {f : List Token → List Token} → Cuts Ends text f → Cuts Ends (codes "{" ++ text ++ codes " }") (λ us. k.Mark m.OpenBlock ∷ f (k.Mark m.CloseBlock ∷ us))
