@@ -16,16 +16,11 @@ use Rattle.vx_syntax.specs.Expressions.{Bytes}
 use Rattle.vx_syntax.specs.Keys.{key_of}
 use Rattle.vx_program.specs.Prelude.{same_key}
 use Rattle.vx_program.specs.Program.{IsIn, is_named, is_predicate, shared, occupied, occupies, is_method_of}
+use Rattle.vx_program.specs.Lookups.{names}
 use Rattle.vx_program.proofs.Members.{any_in, in_any, same_key_is, key_itself}
 use Rattle.vx_program.proofs.Chains.{same_bytes}
 
--- whether a key is that of an object or predicate of the name, and whether it is a predicate's
-abbrev pub names : Bytes → DeclKey → Bool
-names x (k.Object own) = bytes_eq own x
-names x (k.Predicate own) = bytes_eq own x
-names x (k.Field key) = false
-names x (k.Method key) = false
-
+-- whether a key is that of a predicate
 abbrev is_predicate_key : DeclKey → Bool
 is_predicate_key (k.Object own) = false
 is_predicate_key (k.Predicate own) = true

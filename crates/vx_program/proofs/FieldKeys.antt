@@ -108,5 +108,5 @@ setter_name own name r f e =
     let n : name ≡ codes "set_" ++ drop 4 name = sym (take-append-drop 4 name) ∙ ap (λ z. z ++ drop 4 name) g in
     let t : r ≡ bytes_eq (drop 4 name) own = e ∙ ap (λ z. bytes_eq z own) (tail_taken name) in
     same_truth r (bytes_eq (codes "set_" ++ own) name)
-        (λ h. bytes_same (codes "set_" ++ own) name (ap (λ z. codes "set_" ++ z) (sym (same_bytes (drop 4 name) own (sym t ∙ h))) ∙ sym n))
-        (λ h. t ∙ bytes_same (drop 4 name) own (sym (ap (drop 4) (same_bytes (codes "set_" ++ own) name h))))
+    (λ h. bytes_same (codes "set_" ++ own) name (ap (λ z. codes "set_" ++ z) (sym (same_bytes (drop 4 name) own (sym t ∙ h))) ∙ sym n))
+    (λ h. t ∙ bytes_same (drop 4 name) own (sym (ap (drop 4) (same_bytes (codes "set_" ++ own) name h))))

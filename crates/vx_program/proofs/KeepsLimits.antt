@@ -3,14 +3,14 @@ use Rattle.std.proofs.Common.{◌≡◌, ◌+◌, ◌≤◌, List, None, map, co
 use Rattle.vx_names.specs.declared.key.Selector.{Selector}
 use Rattle.vx_names.specs.declared.key.DeclKey.TheVariants as k
 use Rattle.vx_syntax.specs.declared.decl.Decl.{Decl}
-use Rattle.vx_syntax.specs.Counts.{locals, height, capped}
+use Rattle.vx_syntax.specs.Counts.{locals, height}
 use Rattle.vx_program.specs.declared.edit.Counted.TheVariants.{Declarations, Locals, Depth}
 use Rattle.vx_program.specs.declared.limits.TheConstants.{MAX_DECLARATIONS, MAX_METHODS, MAX_LOCALS, MAX_DEPTH}
 use Rattle.vx_program.specs.Prelude.{primitives}
 use Rattle.vx_program.specs.Program.{IsIn, occupied, is_method_of, methods_made, methods_of, declared, IsProgram}
 use Rattle.vx_program.specs.Apply.{over, methods_fault, limit_fault}
 use Rattle.vx_program.proofs.ByKey.{method_of_it}
-use Rattle.vx_program.proofs.NoFault.{neither, within, within_capped, methods_within}
+use Rattle.vx_program.proofs.NoFault.{neither, within, methods_within}
 use Rattle.vx_program.proofs.MemberSums.{counts}
 
 -- no selector has too many methods where the new declaration's own selectors do not, and no other method came
@@ -40,10 +40,10 @@ pub limited : (next : List Decl) (new : Decl) → limit_fault next new ≡ None 
 limited next new h =
     let p = neither (over Declarations MAX_DECLARATIONS (declared next)) _ h in
     let q = neither (methods_fault next (occupied new)) _ p.1 in
-    let r = neither (over Locals MAX_LOCALS (capped (locals new))) _ q.1 in
+    let r = neither (over Locals MAX_LOCALS (locals new)) _ q.1 in
     record {
       few = within Declarations MAX_DECLARATIONS (declared next) p.0;
       methods_free = q.0;
-      few_locals = within_capped Locals MAX_LOCALS (locals new) (omega arith) r.0;
-      low = within_capped Depth MAX_DEPTH (height new) (omega arith) r.1;
+      few_locals = within Locals MAX_LOCALS (locals new) r.0;
+      low = within Depth MAX_DEPTH (height new) r.1;
     }

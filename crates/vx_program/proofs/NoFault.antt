@@ -74,12 +74,9 @@ none_mentions (decl ∷ decls) x h a (inl e) =
 none_mentions (decl ∷ decls) x h a (inr i) =
     none_mentions decls x (fails (is_name_of (mentioned decl) x) (InUse x (key_of decl)) (in_use_from decls x) h).1 a i
 
--- a count is within its limit, also where it is counted in 64 bits
+-- a count is within its limit
 pub within : (which : Counted) (most count : ℕ) → over which most count ≡ None → count ≤ most
-within which most count h = ltb-false most count (fails (nat_lt most count) (Limit which count) None h).0
-
-pub within_capped : (which : Counted) (most count : ℕ) → most ≤ 255 → over which most (capped count) ≡ None → count ≤ most
-within_capped which most count small h = let below : min count (2 ^ 64 - 1) ≤ most = within which most (capped count) h in omega arith
+within which most count h = ltb-false most count (fails (nat_lt most count) (Limit which (capped count)) None h).0
 
 -- no selector of the keys has too many methods
 pub methods_within : (program : List Decl) (keys : List DeclKey) → methods_fault program keys ≡ None →

@@ -2,6 +2,7 @@
 #![tactic(auto)]
 
 mod edit;
+mod faults;
 mod key;
 mod limits;
 mod lookup;
@@ -11,9 +12,10 @@ mod reserved;
 mod scope;
 mod walk;
 mod words;
-mod writable;
+mod writability;
 mod written;
 
 pub use edit::{Change, Counted, Edit, EditFault};
 pub use limits::{MAX_DECLARATIONS, MAX_DEPTH, MAX_LOCALS, MAX_METHODS};
 pub use reserved::Reserved;
+pub use writability::{writable, writable_edits_are_read};

@@ -1,8 +1,10 @@
 //! Declarations by their names and keys.
 ghost use Rattle.std.specs.Prelude.{◌≡◌, ◌≤◌, length, insert};
 ghost use Rattle.std.specs.Option.{option_copied};
+ghost use Rattle.std.specs.Str.{bytes_eq};
 ghost use Rattle.vx_syntax.specs.declared.decl.Decl.{Decl};
 ghost use Rattle.vx_syntax.specs.Keys.{key_of};
+ghost use Rattle.vx_program.specs.Prelude.{sealed};
 ghost use Rattle.vx_program.specs.Program.{find, is_named, is_predicate, is_there, is_predicate_there, is_name_of, mentioned, parents_of};
 ghost use Rattle.vx_program.specs.Apply.{with_decl};
 
@@ -113,4 +115,20 @@ pub fn place_of(decls: &[Decl], key: &DeclKey) -> usize
         }
     }
     decls.len()
+}
+
+/// Whether nothing inherits from the object of this name.
+#[tactic(auto, using(crate::proofs::Lookups::sealed_is))]
+pub fn is_sealed(x: &Name) -> bool
+    ensures { result ≡ is_name_of sealed x.now }
+{
+    let plain = is_word(x, b"int") | (is_word(x, b"string") | is_word(x, b"closure"));
+    let value = is_word(x, b"true") | (is_word(x, b"false") | is_word(x, b"nil"));
+    plain | value
+}
+
+fn is_word(x: &Name, bytes: &[u8]) -> bool
+    ensures { result ≡ bytes_eq bytes.now x.now }
+{
+    bytes == x.bytes()
 }

@@ -1,5 +1,5 @@
 //! The keys that declarations occupy.
-ghost use Rattle.std.specs.Prelude.{◌≡◌, ◌++◌, codes, IfOk};
+ghost use Rattle.std.specs.Prelude.{◌≡◌, ◌++◌, ◌∷◌, [], if◌then◌else◌, codes, IfOk};
 ghost use Rattle.std.specs.Str.{bytes_eq};
 ghost use Rattle.vx_names.specs.declared.key.DeclKey.TheVariants as k;
 ghost use Rattle.vx_syntax.specs.declared.decl.Decl.TheVariants as d;
@@ -28,18 +28,29 @@ pub fn shared(alloc: Global, key: &DeclKey) -> Result<DeclKey, AllocError>
 pub fn occupied(alloc: Global, decl: &Decl) -> Result<Items<DeclKey>, AllocError>
     ensures { IfOk result (λ keys. keys ≡ occupied decl.now) }
 {
-    let mut keys = Items::new(alloc);
     match decl {
         Decl::Field {
-            key, changeable, ..
-        } => {
-            keys.push(DeclKey::Field(key.copy(alloc)?))?;
-            keys.push(DeclKey::Method(getter(alloc, key)?))?;
-            if *changeable {
-                keys.push(DeclKey::Method(setter(alloc, key)?))?;
-            }
+            key,
+            changeable,
+            ..
+        } => of_field(alloc, key, *changeable),
+        _ => {
+            let key = decl.key(alloc)?;
+            let mut keys = Items::new(alloc);
+            keys.push(shared(alloc, &key)?)?;
+            Ok(keys)
         }
-        _ => keys.push(shared(alloc, &decl.key(alloc)?)?)?,
+    }
+}
+
+fn of_field(alloc: Global, key: &FieldKey, changeable: bool) -> Result<Items<DeclKey>, AllocError>
+    ensures { IfOk result (λ keys. keys ≡ k.Field key.now ∷ k.Method (getter key.now) ∷ (if changeable then k.Method (setter key.now) ∷ [] else [])) }
+{
+    let mut keys = Items::new(alloc);
+    keys.push(DeclKey::Field(key.copy(alloc)?))?;
+    keys.push(DeclKey::Method(getter(alloc, key)?))?;
+    if changeable {
+        keys.push(DeclKey::Method(setter(alloc, key)?))?;
     }
     Ok(keys)
 }
@@ -112,7 +123,8 @@ fn is_getter(own: &FieldKey, key: &MethodKey) -> bool
     own.name
         .cmp(&key.selector.name)
         .then(1u8.cmp(&key.selector.arity))
-        .then(std::slice::from_ref(&own.specialiser).cmp(key.specialisers.as_slice())) == Ordering::Equal
+        .then(std::slice::from_ref(&own.specialiser).cmp(key.specialisers.as_slice()))
+        == Ordering::Equal
 }
 
 #[tactic(auto, using(crate::proofs::FieldKeys::setter_is))]

@@ -1,8 +1,11 @@
 //! The keys that no change may name.
 ghost use Rattle.std.specs.Prelude.{◌≡◌, ◌≤◌, ◌++◌, ◌∷◌, [], length, map, codes, IfOk, OnOk};
 ghost use Rattle.vx_names.specs.declared.key.DeclKey.TheVariants as k;
+ghost use Rattle.std.specs.List.{list_any};
 ghost use Rattle.vx_syntax.specs.Declarations.{method_key};
-ghost use Rattle.vx_program.specs.Prelude.{is_one, is_primitive, is_reserved, of_integers, of_strings, of_one, evaluation, arithmetic, division, comparing, joining, printing, evaluating, evaluating_more, looping, prelude_keys, primitive_keys};
+ghost use Rattle.vx_program.specs.Program.{is_there};
+ghost use Rattle.vx_program.specs.Lookups.{names};
+ghost use Rattle.vx_program.specs.Prelude.{is_one, is_primitive, is_reserved, of_integers, of_strings, of_one, evaluation, arithmetic, division, comparing, joining, printing, evaluating, evaluating_more, looping, prelude, prelude_keys, primitive_keys};
 
 use crate::prelude::{method_key, one, pair, prelude};
 use sqlite_items::Items;
@@ -48,12 +51,42 @@ impl Reserved {
         is_one(self.prelude.as_slice(), key) || is_one(self.primitives.as_slice(), key)
     }
 
+    /// Whether the name is that of an object of the prelude.
+    #[tactic(auto, using(crate::proofs::Lookups::named_in_prelude))]
+    pub fn has_object(&self, x: &Name) -> bool
+        ensures { result ≡ is_there prelude x.now }
+    {
+        are_named(self.prelude.as_slice(), x)
+    }
+
     /// Whether the key is that of a primitive.
     pub fn is_primitive(&self, key: &DeclKey) -> bool
         ensures { result ≡ is_primitive key.now }
     {
         is_one(self.primitives.as_slice(), key)
     }
+}
+
+// Whether the key is that of an object or a predicate of the name.
+fn is_named(key: &DeclKey, x: &Name) -> bool
+    ensures { result ≡ names x.now key.now }
+{
+    match key {
+        DeclKey::Object(name) => name.bytes() == x.bytes(),
+        DeclKey::Predicate(name) => name.bytes() == x.bytes(),
+        _ => false,
+    }
+}
+
+fn are_named(keys: &[DeclKey], x: &Name) -> bool
+    ensures { result ≡ list_any (names x.now) keys.now }
+{
+    for key in keys {
+        if is_named(key, x) {
+            return true;
+        }
+    }
+    false
 }
 
 fn is_one(keys: &[DeclKey], key: &DeclKey) -> bool

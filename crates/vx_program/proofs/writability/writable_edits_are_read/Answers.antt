@@ -1,5 +1,5 @@
 use Rattle.vx_program.proofs.Edits.{edit_read, edit_written}
-use Rattle.vx_program.proofs.writable.writable_edits_are_read.Goals as goal
+use Rattle.vx_program.proofs.writability.writable_edits_are_read.Goals as goal
 
 pub returns-clause-read : goal.returns-clause-read
 returns-clause-read c =

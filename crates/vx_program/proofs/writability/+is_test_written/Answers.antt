@@ -3,7 +3,7 @@ use Rattle.std.specs.Bool.{Decides}
 use Rattle.vx_syntax.specs.Written.{IsTestWritten}
 use Rattle.vx_program.proofs.Trees.{ands, ors, negates}
 use Rattle.vx_program.proofs.Steps.{by_first, by_second}
-use Rattle.vx_program.proofs.writable.+is_test_written.Goals as goal
+use Rattle.vx_program.proofs.writability.+is_test_written.Goals as goal
 
 pub returns-then-is_test_written : goal.returns-then-is_test_written
 returns-then-is_test_written t c =

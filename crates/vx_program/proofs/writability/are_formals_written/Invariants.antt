@@ -2,7 +2,7 @@ use Rattle.std.proofs.Common.{◌≡◌, ◌↔◌, drop}
 use Rattle.vx_syntax.specs.Declarations.{named}
 use Rattle.vx_syntax.specs.Expressions.{with_formals}
 use Rattle.vx_syntax.specs.Written.{AreFormalsWritten}
-use Rattle.vx_program.proofs.writable.are_formals_written.Given as goal
+use Rattle.vx_program.proofs.writability.are_formals_written.Given as goal
 
 abbrev pub invariant-loop-place : goal.invariant-loop-place
 invariant-loop-place l =

@@ -1,6 +1,6 @@
 use Rattle.std.proofs.Common.{arith}
 use Rattle.vx_program.proofs.Steps.{decided_no, as_many}
-use Rattle.vx_program.proofs.writable.are_formals_written.Goals as goal
+use Rattle.vx_program.proofs.writability.are_formals_written.Goals as goal
 
 pub returns-then-formals-specialisers-clause-decides :
     goal.returns-then-formals-specialisers-clause-decides
