@@ -17,5 +17,6 @@ pub mod Scopes
 pub mod Trees
 pub mod Steps
 pub mod Edits
+pub mod Sought
 pub mod Walks
 mod Rows

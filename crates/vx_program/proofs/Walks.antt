@@ -11,6 +11,7 @@ use Rattle.vx_program.specs.Program.{IsIn, IsProgram, Leads, here, up, parents_o
 use Rattle.vx_program.specs.Apply.{leads_back}
 use Rattle.vx_program.proofs.Members.{any_in, in_any}
 use Rattle.vx_program.proofs.ByKey.{occupies_name}
+use Rattle.vx_program.proofs.Sought.{in_at, some_is}
 use Rattle.vx_program.proofs.Chains.{same_bytes, bytes_same, leads_is, leads_finds}
 
 -- a chain leads from one of the starts to wherever one leads from the name
@@ -50,12 +51,6 @@ in_either : {X : Type 0} (x : X) (xs ys : List X) → IsIn x (xs ++ ys) → IsIn
 in_either x [] ys i = inr i
 in_either x (z ∷ xs) ys (inl e) = inl (inl e)
 in_either x (z ∷ xs) ys (inr i) = elim (in_either x xs ys i) [ inl j ↦ inl (inr j) | inr j ↦ inr j ]
-
--- what stands at a place is in the list
-in_at : {X : Type 0} (xs : List X) (place : ℕ) (x : X) → slice_get xs place ≡ Some x → IsIn x xs
-in_at [] place x e = absurd (cc)
-in_at (y ∷ xs) zero x e = inl (cc)
-in_at (y ∷ xs) (suc place) x e = inr (in_at xs place x e)
 
 none_seen : (n place : ℕ) → get_or (replicate n false) place false ≡ false
 none_seen zero place = refl
@@ -152,9 +147,6 @@ comes decls starts x left name seen place decl walked other e n within =
         | inr ne ↦ moved y (walked.gone_on at own y (sym (get_or-set_other seen place at true false ne) ∙ s) f i)
       ];
     }
-  where
-    some_is : (a b : Decl) → Some a ≡ Some b → a ≡ b
-    some_is a b e = cc
 
 -- marking a place takes the parents of what stands there from those to come
 pub fewer_come : (decls : List Decl) (seen : List Bool) (place : ℕ) (decl : Decl) → slice_get decls place ≡ Some decl → get_or seen place false ≡ false → place < length seen →
