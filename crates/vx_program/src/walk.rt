@@ -42,6 +42,7 @@ pub fn leads_back(
     Ok(false)
 }
 
+// Puts the names on the list of those that are left.
 fn append<'a>(left: &mut Vec<&'a Name>, names: &'a [Name]) -> Result<(), AllocError>
     ensures { OnOk result (map (λ x. x.now) left.new.items ≡ map (λ x. x.now) left.old.items ++ names.now) }
 {
