@@ -14,7 +14,8 @@ use Rattle.vx_program.specs.Program.{IsIn, parents_of, mentioned, has_key, is_na
 use Rattle.vx_program.specs.Apply.{without, in_use_fault}
 use Rattle.vx_program.proofs.Members.{any_in, in_any, has_key_is, in_without, old_in_without, ordered_without}
 use Rattle.vx_program.proofs.Chains.{same_bytes, bytes_same, leads_in_more}
-use Rattle.vx_program.proofs.ByKey.{names, named_by_key}
+use Rattle.vx_program.specs.Lookups.{names}
+use Rattle.vx_program.proofs.ByKey.{named_by_key}
 use Rattle.vx_program.proofs.NoFault.{none_mentions}
 use Rattle.vx_program.proofs.MemberSums.{sum_without, length_without}
 use Rattle.vx_program.proofs.PreludeKeys.{prelude_is_reserved}

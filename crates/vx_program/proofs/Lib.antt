@@ -14,9 +14,11 @@ pub mod KeepsPut
 pub mod Keeps
 pub mod Lookups
 pub mod FieldKeys
+pub mod Orders
 pub mod Scopes
 pub mod Trees
 pub mod Steps
 pub mod Edits
+pub mod Sought
 pub mod Walks
 mod Rows

@@ -52,7 +52,7 @@ pub has_its_key : (key : DeclKey) (a : Decl) → key_of a ≡ key → has_key ke
 has_its_key key a e = key_itself (key_of a) key e
 
 -- what goes before another goes before all that the other goes before
-less : (o : Ordering) → is_lt o ≡ true → o ≡ Less
+pub less : (o : Ordering) → is_lt o ≡ true → o ≡ Less
 less Less h = refl
 less Equal h = absurd (false≢true h)
 less Greater h = absurd (false≢true h)
@@ -61,7 +61,7 @@ before_trans : (a b c : Decl) → is_before a b ≡ true → is_before b c ≡ t
 before_trans a b c h k =
     ap is_lt (decl_keys_total.trans (key_of a) (key_of b) (key_of c) (less (decl_key_cmp (key_of a) (key_of b)) h) (less (decl_key_cmp (key_of b) (key_of c)) k))
 
-not_before_itself : (key : DeclKey) → is_lt (decl_key_cmp key key) ≡ false
+pub not_before_itself : (key : DeclKey) → is_lt (decl_key_cmp key key) ≡ false
 not_before_itself key = ap is_lt (tied_itself decl_keys_total key)
 
 other_way : (o : Ordering) → is_lt o ≡ false → is_eq o ≡ false → is_lt (ordering_reverse o) ≡ true
@@ -73,12 +73,12 @@ other_way Greater l e = refl
 before : (a b : Decl) → is_before a b ≡ false → has_key (key_of b) a ≡ false → is_before b a ≡ true
 before a b l h = ap is_lt (decl_keys_total.antisymm (key_of b) (key_of a)) ∙ other_way (decl_key_cmp (key_of a) (key_of b)) l h
 
-tail_ordered : (a : Decl) (ds : List Decl) → IsOrdered (a ∷ ds) → IsOrdered ds
+pub tail_ordered : (a : Decl) (ds : List Decl) → IsOrdered (a ∷ ds) → IsOrdered ds
 tail_ordered a [] o = tt
 tail_ordered a (b ∷ ds) o = o.1
 
 -- the first goes before all others
-goes_first : (a : Decl) (ds : List Decl) → IsOrdered (a ∷ ds) → (b : Decl) → IsIn b ds → is_before a b ≡ true
+pub goes_first : (a : Decl) (ds : List Decl) → IsOrdered (a ∷ ds) → (b : Decl) → IsIn b ds → is_before a b ≡ true
 goes_first a [] o b i = absurd i
 goes_first a (c ∷ ds) o b (inl e) = ap (is_before a) (sym e) ∙ o.0
 goes_first a (c ∷ ds) o b (inr i) = before_trans a c b o.0 (goes_first c ds o.1 b i)

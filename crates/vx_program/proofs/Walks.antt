@@ -1,21 +1,17 @@
 -- What a walk over parents keeps, from the names that it starts with to x.
-use Rattle.std.proofs.Common.{◌≡◌, ℕ, zero, suc, ◌+◌, ◌<◌, ◌⊎◌, Bool, true, false, cond, List, [], ◌∷◌, ◌++◌, Some, Equal, length, get_or, set, replicate, refl, sym, ap, ◌∙◌, subst, inl, inr, arith}
+use Rattle.std.proofs.Common.{◌≡◌, ℕ, zero, suc, ◌+◌, ◌<◌, ◌⊎◌, Bool, true, false, cond, List, [], ◌∷◌, ◌++◌, Some, length, get_or, set, replicate, refl, sym, ap, ◌∙◌, subst, inl, inr, arith}
 use Rattle.std.specs.List.{slice_get}
 use Rattle.std.specs.Str.{bytes_eq}
-use Rattle.std.specs.Cmp.{Equal-is}
-use Rattle.std.specs.Cmp.Lexicographic.{slice_cmp}
-use Rattle.std.proofs.lemmas.Map.Text.{is_eq-slice_cmp}
-use Rattle.std.specs.Ordering.{is_eq, nat_cmp, ordering_then}
-use Rattle.std.proofs.lemmas.Bool.{false≢true, cases_eq, false_from_ne_true, or_left}
+use Rattle.std.proofs.lemmas.Bool.{false≢true, cases_eq, false_from_ne_true}
 use Rattle.std.proofs.lemmas.List.{length-set, length-replicate, get_or-set_same, get_or-set_other}
 use Rattle.vx_names.specs.declared.key.DeclKey.TheVariants as k
 use Rattle.vx_syntax.specs.declared.decl.Decl.{Decl}
-use Rattle.vx_syntax.specs.declared.decl.Decl.TheVariants as d
 use Rattle.vx_syntax.specs.Expressions.{Bytes}
-use Rattle.vx_program.specs.Prelude.{same_key}
-use Rattle.vx_program.specs.Program.{IsIn, IsProgram, Leads, here, up, parents_of, is_named, is_there, occupies, leads}
+use Rattle.vx_program.specs.Program.{IsIn, IsProgram, Leads, here, up, parents_of, is_named, is_there, leads}
 use Rattle.vx_program.specs.Apply.{leads_back}
 use Rattle.vx_program.proofs.Members.{any_in, in_any}
+use Rattle.vx_program.proofs.ByKey.{occupies_name}
+use Rattle.vx_program.proofs.Sought.{in_at, some_is}
 use Rattle.vx_program.proofs.Chains.{same_bytes, bytes_same, leads_is, leads_finds}
 
 -- a chain leads from one of the starts to wherever one leads from the name
@@ -56,23 +52,6 @@ in_either x [] ys i = inr i
 in_either x (z ∷ xs) ys (inl e) = inl (inl e)
 in_either x (z ∷ xs) ys (inr i) = elim (in_either x xs ys i) [ inl j ↦ inl (inr j) | inr j ↦ inr j ]
 
--- what stands at a place is in the list
-in_at : {X : Type 0} (xs : List X) (place : ℕ) (x : X) → slice_get xs place ≡ Some x → IsIn x xs
-in_at [] place x e = absurd (cc)
-in_at (y ∷ xs) zero x e = inl (cc)
-in_at (y ∷ xs) (suc place) x e = inr (in_at xs place x e)
-
-same_itself : (x : Bytes) → same_key (k.Object x) (k.Object x) ≡ true
-same_itself x =
-    ap (λ o. is_eq (ordering_then (ordering_then (ordering_then o Equal) Equal) Equal)) ((Equal-is (slice_cmp nat_cmp x x)).0 (is_eq-slice_cmp x x ∙ bytes_same x x refl))
-
--- objects and predicates of a name occupy one key
-occupies_name : (decl : Decl) (name : Bytes) → is_named name decl ≡ true → occupies decl (k.Object name) ≡ true
-occupies_name (d.Object own parents) name n = or_left _ _ (ap (λ z. same_key (k.Object own) (k.Object z)) (sym (same_bytes own name n)) ∙ same_itself own)
-occupies_name (d.Predicate own parents test) name n = or_left _ _ (ap (λ z. same_key (k.Object own) (k.Object z)) (sym (same_bytes own name n)) ∙ same_itself own)
-occupies_name (d.Field key start changeable) name n = absurd (false≢true n)
-occupies_name (d.Method key formals body) name n = absurd (false≢true n)
-
 none_seen : (n place : ℕ) → get_or (replicate n false) place false ≡ false
 none_seen zero place = refl
 none_seen (suc n) zero = refl
@@ -80,7 +59,7 @@ none_seen (suc n) (suc place) = none_seen n place
 
 pub begins : (decls : List Decl) (starts : List Bytes) (x : Bytes) → IsProgram decls → Walked decls starts x starts (replicate (length decls) false)
 begins decls starts x program = record {
-  one = λ a b name i j n m. program.apart a b (k.Object name) i j (occupies_name a name n) (occupies_name b name m);
+  one = λ a b name i j n m. program.apart a b (k.Object name) i j (occupies_name name a n) (occupies_name name b m);
   same = length-replicate (length decls) false;
   come = λ name i. (name, i, λ y chain. chain);
   begun = λ name i. inl i;
@@ -168,9 +147,6 @@ comes decls starts x left name seen place decl walked other e n within =
         | inr ne ↦ moved y (walked.gone_on at own y (sym (get_or-set_other seen place at true false ne) ∙ s) f i)
       ];
     }
-  where
-    some_is : (a b : Decl) → Some a ≡ Some b → a ≡ b
-    some_is a b e = cc
 
 -- marking a place takes the parents of what stands there from those to come
 pub fewer_come : (decls : List Decl) (seen : List Bool) (place : ℕ) (decl : Decl) → slice_get decls place ≡ Some decl → get_or seen place false ≡ false → place < length seen →

@@ -1,5 +1,5 @@
 //! Why a change may not be made. Each function tries one kind of fault.
-ghost use Rattle.std.specs.Prelude.{◌≡◌, ◌∷◌, [], ℕ, IfOk};
+ghost use Rattle.std.specs.Prelude.{◌≡◌, Some, IfOk};
 ghost use Rattle.std.specs.Option.{option_copied};
 ghost use Rattle.vx_syntax.specs.Keys.{key_of};
 ghost use Rattle.vx_syntax.specs.Counts.{capped};
@@ -84,7 +84,7 @@ pub fn exists_fault(
 
 /// The keys that a declaration occupies and the one in whose place it comes does not.
 pub fn gained(alloc: Global, old: Option<&Decl>, new: &Decl) -> Result<Items<DeclKey>, AllocError>
-    ensures { IfOk result (λ keys. keys ≡ gained (option_copied old) new.now) }
+    ensures { IfOk result (λ keys. keys ≡ gained (option_copied old.entry) new.now) }
 {
     match old {
         Some(old) => not_occupied(alloc, old, new),

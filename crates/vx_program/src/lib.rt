@@ -1,6 +1,8 @@
 //! Programs as lists of declarations, and edits of them.
 #![tactic(auto)]
 
+mod changes;
+mod counts;
 mod edit;
 mod faults;
 mod key;
@@ -8,6 +10,7 @@ mod limits;
 mod lookup;
 mod occupied;
 mod prelude;
+mod program;
 mod reserved;
 mod scope;
 mod walk;
@@ -17,5 +20,6 @@ mod written;
 
 pub use edit::{Change, Counted, Edit, EditFault};
 pub use limits::{MAX_DECLARATIONS, MAX_DEPTH, MAX_LOCALS, MAX_METHODS};
+pub use program::Program;
 pub use reserved::Reserved;
 pub use writability::{writable, writable_edits_are_read};

@@ -1,12 +1,13 @@
 //! Declarations by their names and keys.
-ghost use Rattle.std.specs.Prelude.{◌≡◌, ◌≤◌, length, insert};
+ghost use Rattle.std.specs.Prelude.{◌≡◌, ◌≤◌, ◌<◌, length, insert, IfSome};
 ghost use Rattle.std.specs.Option.{option_copied};
 ghost use Rattle.std.specs.Str.{bytes_eq};
 ghost use Rattle.vx_syntax.specs.declared.decl.Decl.{Decl};
 ghost use Rattle.vx_syntax.specs.Keys.{key_of};
 ghost use Rattle.vx_program.specs.Prelude.{sealed};
 ghost use Rattle.vx_program.specs.Program.{find, is_named, is_predicate, is_there, is_predicate_there, is_name_of, mentioned, parents_of};
-ghost use Rattle.vx_program.specs.Apply.{with_decl};
+ghost use Rattle.vx_program.specs.Apply.{with_decl, replaced, without};
+ghost use Rattle.vx_program.specs.Lookups.{put_at, dropped_at};
 
 use crate::key::compare;
 use std::cmp::Ordering;
@@ -115,6 +116,20 @@ pub fn place_of(decls: &[Decl], key: &DeclKey) -> usize
         }
     }
     decls.len()
+}
+
+/// Where the first declaration of the key stands, if there is one.
+pub fn position(decls: &[Decl], key: &DeclKey) -> Option<usize>
+    ensures found { IfSome result (λ place. place < length decls.now) }
+    ensures put { (new : Decl) → key_of new ≡ key.now → replaced decls.now new ≡ put_at result decls.now new }
+    ensures dropped { without decls.now key.now ≡ dropped_at result decls.now }
+{
+    for (place, decl) in decls.iter().enumerate() {
+        if compare(decl, key) == Ordering::Equal {
+            return Some(place);
+        }
+    }
+    None
 }
 
 /// Whether nothing inherits from the object of this name.

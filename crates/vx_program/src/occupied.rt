@@ -136,7 +136,8 @@ fn is_setter(own: &FieldKey, key: &MethodKey) -> bool
     (key.selector.arity == 2) & (name_is & specialisers_are)
 }
 
-fn is_setter_name(own: &[u8], name: &[u8]) -> bool
+/// Whether the name is that of the method that sets a field of this name.
+pub fn is_setter_name(own: &[u8], name: &[u8]) -> bool
     ensures { result ≡ bytes_eq (codes "set_" ++ own.now) name.now }
 {
     name.len() == 4 + own.len() && &name[..4] == b"set_".as_slice() && &name[4..] == own

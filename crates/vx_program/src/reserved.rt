@@ -1,17 +1,22 @@
 //! The keys that no change may name.
-ghost use Rattle.std.specs.Prelude.{◌≡◌, ◌≤◌, ◌++◌, ◌∷◌, [], length, map, codes, IfOk, OnOk};
+ghost use Rattle.std.specs.Prelude.{◌≡◌, ◌≤◌, ◌++◌, ◌∷◌, [], length, map, count_by, codes, IfOk, OnOk};
 ghost use Rattle.vx_names.specs.declared.key.DeclKey.TheVariants as k;
 ghost use Rattle.std.specs.List.{list_any};
 ghost use Rattle.vx_syntax.specs.Declarations.{method_key};
-ghost use Rattle.vx_program.specs.Program.{is_there};
+ghost use Rattle.vx_program.specs.Program.{is_there, is_method_of};
 ghost use Rattle.vx_program.specs.Lookups.{names};
+ghost use Rattle.vx_syntax.specs.Counts.{capped};
 ghost use Rattle.vx_program.specs.Prelude.{is_one, is_primitive, is_reserved, of_integers, of_strings, of_one, evaluation, arithmetic, division, comparing, joining, printing, evaluating, evaluating_more, looping, prelude, prelude_keys, primitive_keys};
 
 use crate::prelude::{method_key, one, pair, prelude};
 use sqlite_items::Items;
 use std::alloc::{AllocError, Global};
+use std::cmp::Ordering;
 use std::marker::Model;
-use vx_names::{DeclKey, Name, name_of};
+use vx_names::{DeclKey, Name, Selector, name_of};
+
+/// How many declarations the prelude has.
+pub const PRELUDE_DECLARATIONS: u64 = 21;
 
 /// The keys of the prelude's declarations and of the primitives. It holds nothing else, so contracts see nothing of it.
 #[derive(Drop)]
@@ -59,6 +64,19 @@ impl Reserved {
         are_named(self.prelude.as_slice(), x)
     }
 
+    /// How many primitives have the selector.
+    pub fn methods_of(&self, selector: &Selector) -> u64
+        ensures { result ≡ capped (count_by (is_method_of selector.now) primitive_keys) }
+    {
+        let mut count = 0u64;
+        for key in self.primitives.as_slice() {
+            if is_method_of(key, selector) {
+                count = count.saturating_add(1);
+            }
+        }
+        count
+    }
+
     /// Whether the key is that of a primitive.
     pub fn is_primitive(&self, key: &DeclKey) -> bool
         ensures { result ≡ is_primitive key.now }
@@ -74,6 +92,15 @@ fn is_named(key: &DeclKey, x: &Name) -> bool
     match key {
         DeclKey::Object(name) => name.bytes() == x.bytes(),
         DeclKey::Predicate(name) => name.bytes() == x.bytes(),
+        _ => false,
+    }
+}
+
+fn is_method_of(key: &DeclKey, selector: &Selector) -> bool
+    ensures { result ≡ is_method_of selector.now key.now }
+{
+    match key {
+        DeclKey::Method(key) => key.selector.cmp(selector) == Ordering::Equal,
         _ => false,
     }
 }

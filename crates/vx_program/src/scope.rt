@@ -24,6 +24,7 @@ impl<'a> Model for Scope<'a> {
 }
 
 impl<'a> Scope<'a> {
+    /// No names.
     pub fn new(alloc: Global) -> Scope<'a>
         ensures { result ≡ [] }
     {
@@ -32,6 +33,7 @@ impl<'a> Scope<'a> {
         }
     }
 
+    /// How many names there are.
     pub fn len(&self) -> usize
         ensures { result ≡ length self.now }
     {
@@ -53,12 +55,14 @@ impl<'a> Scope<'a> {
         self.names.truncate(len);
     }
 
+    /// Whether the name is in scope.
     pub fn is_bound(&self, x: &Name) -> bool
         ensures { result ≡ is_bound self.now x.now }
     {
         is_listed(self.names.as_slice(), x)
     }
 
+    /// Whether the name is in scope, and may be assigned.
     pub fn is_variable(&self, x: &Name) -> bool
         ensures { result ≡ is_variable self.now x.now }
     {
@@ -66,6 +70,7 @@ impl<'a> Scope<'a> {
     }
 }
 
+// Whether the name is one of these.
 fn is_listed(names: &[(&Name, bool)], x: &Name) -> bool
     ensures { result ≡ list_any (λ name. bytes_eq name.0.now x.now) names.now }
 {
@@ -77,6 +82,7 @@ fn is_listed(names: &[(&Name, bool)], x: &Name) -> bool
     false
 }
 
+// Whether the name is one of these, and may be assigned.
 fn is_changeable(names: &[(&Name, bool)], x: &Name) -> bool
     ensures { result ≡ list_any (λ name. bytes_eq name.0.now x.now && name.1) names.now }
 {

@@ -1,11 +1,16 @@
 //! Whether chains of parents lead back to a name.
-ghost use Rattle.std.specs.Prelude.{◌≡◌, ◌<◌, ◌++◌, true, false, Some, length, map, slice_get, IfOk, OnOk, IfSome, IsNone};
+ghost use Rattle.std.specs.Prelude.{◌≡◌, ◌<◌, ◌≤◌, ℕ, ◌++◌, true, false, Some, length, map, slice_get, IfOk, OnOk, IfSome, IsNone};
+ghost use Rattle.std.specs.Ordering.{is_lt};
+ghost use Rattle.vx_names.specs.declared.key.DeclKey.TheVariants.{Object};
+ghost use Rattle.vx_names.specs.Key.{decl_key_cmp};
 ghost use Rattle.vx_syntax.specs.declared.decl.Decl.{Decl};
-ghost use Rattle.vx_program.specs.Program.{IsProgram, is_named, is_there};
+ghost use Rattle.vx_syntax.specs.Keys.{key_of};
+ghost use Rattle.vx_program.specs.Program.{IsOrdered, IsProgram, is_named, is_there};
 ghost use Rattle.vx_program.specs.Apply.{leads_back};
 
 use crate::lookup::{is_named, parents_of};
 use std::alloc::{AllocError, Global};
+use std::cmp::Ordering;
 use vx_names::Name;
 use vx_syntax::Decl;
 
@@ -37,6 +42,7 @@ pub fn leads_back(
     Ok(false)
 }
 
+// Puts the names on the list of those that are left.
 fn append<'a>(left: &mut Vec<&'a Name>, names: &'a [Name]) -> Result<(), AllocError>
     ensures { OnOk result (map (λ x. x.now) left.new.items ≡ map (λ x. x.now) left.old.items ++ names.now) }
 {
@@ -46,16 +52,49 @@ fn append<'a>(left: &mut Vec<&'a Name>, names: &'a [Name]) -> Result<(), AllocEr
     Ok(())
 }
 
-// Where the first object or predicate of the name stands.
+// Where an object or predicate of the name stands. Objects and predicates stand in order of their names, and in front of
+// all other declarations.
 fn position(decls: &[Decl], x: &Name) -> Option<usize>
+    requires { IsOrdered decls.now }
     ensures within { IfSome result (λ place. place < length decls.now) }
     ensures some { IfSome result (λ place. (decl : Decl) × (slice_get decls.now place ≡ Some decl) × (is_named x.now decl ≡ true)) }
     ensures none { IsNone result → is_there decls.now x.now ≡ false }
 {
-    for (place, decl) in decls.iter().enumerate() {
-        if is_named(decl, x) {
-            return Some(place);
+    let place = place_of_name(decls, x);
+    if place < decls.len() && is_named(&decls[place], x) {
+        Some(place)
+    } else {
+        None
+    }
+}
+
+// How many declarations go before an object of the name.
+fn place_of_name(decls: &[Decl], x: &Name) -> usize
+    requires { IsOrdered decls.now }
+    ensures within { result ≤ length decls.now }
+    ensures before { (place : ℕ) (decl : Decl) → place < result → slice_get decls.now place ≡ Some decl → is_lt (decl_key_cmp (key_of decl) (Object x.now)) ≡ true }
+    ensures behind { (place : ℕ) (decl : Decl) → result ≤ place → slice_get decls.now place ≡ Some decl → is_lt (decl_key_cmp (key_of decl) (Object x.now)) ≡ false }
+{
+    let mut low = 0;
+    let mut high = decls.len();
+    while low < high {
+        let middle = low + (high - low) / 2;
+        if goes_before(&decls[middle], x) {
+            low = middle + 1;
+        } else {
+            high = middle;
         }
     }
-    None
+    low
+}
+
+// Whether the declaration goes before an object of the name, in key order.
+fn goes_before(decl: &Decl, x: &Name) -> bool
+    ensures { result ≡ is_lt (decl_key_cmp (key_of decl.now) (Object x.now)) }
+{
+    match decl {
+        Decl::Object { name, .. } => name.cmp(x) == Ordering::Less,
+        Decl::Predicate { name, .. } => name.cmp(x) == Ordering::Less,
+        _ => false,
+    }
 }

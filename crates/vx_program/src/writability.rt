@@ -41,6 +41,7 @@ pub fn writable(alloc: Global, edit: &Edit) -> Result<bool, AllocError>
     Ok(true)
 }
 
+// Whether the change stands in some text.
 fn is_change_written(alloc: Global, change: &Change) -> Result<bool, AllocError>
     ensures { IfOk result (λ yes. Decides yes (IsChangeWritten change.now)) }
 {
@@ -102,6 +103,7 @@ fn is_start_written(start: &Start) -> bool
     }
 }
 
+// Whether the word joins tests, and is no field of one.
 fn is_joining_word(x: &Name) -> bool
     ensures { result ≡ is_among joining_words x.now }
 {
