@@ -17,3 +17,4 @@ mod written;
 pub use edit::{Change, Counted, Edit, EditFault};
 pub use limits::{MAX_DECLARATIONS, MAX_DEPTH, MAX_LOCALS, MAX_METHODS};
 pub use reserved::Reserved;
+pub use writable::writable_edits_are_read;
