@@ -6,7 +6,7 @@ use Rattle.std.specs.Io.KnownBytes.{Consumes, IsAtEnd}
 use Rattle.std.proofs.lemmas.List.{append-nil}
 use Rattle.vx_syntax.specs.declared.decl.Decl.{Decl}
 use Rattle.vx_program.specs.declared.edit.Edit.{Edit}
-use Rattle.vx_program.specs.Program.{prelude}
+use Rattle.vx_program.specs.Prelude.{prelude}
 use Rattle.vx_reader.specs.Reads.{Reads, answer}
 use Rattle.vx_blocks.specs.Blocks.{has_end_line}
 use Rattle.vx_batch.specs.declared.pieces.TheConstants.{INPUT_BYTES, PIECE_BYTES}

@@ -2,7 +2,7 @@
 use Rattle.std.proofs.Common.{◌≡◌, ℕ, List, [], ◌∷◌, ◌++◌, refl}
 use Rattle.vx_syntax.specs.declared.decl.Decl.TheVariants as d
 use Rattle.vx_syntax.specs.Declarations.{any}
-use Rattle.vx_program.specs.Program.{prelude}
+use Rattle.vx_program.specs.Prelude.{prelude}
 use Rattle.vx_batch.specs.Image.{image_of}
 
 -- the name `a`, and the name `b`

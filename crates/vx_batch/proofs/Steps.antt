@@ -6,7 +6,7 @@ use Rattle.std.proofs.lemmas.List.{length_push}
 use Rattle.vx_syntax.specs.declared.decl.Decl.{Decl}
 use Rattle.vx_program.specs.declared.edit.Edit.{Edit}
 use Rattle.vx_program.specs.declared.edit.EditFault.{EditFault}
-use Rattle.vx_program.specs.Program.{prelude}
+use Rattle.vx_program.specs.Prelude.{prelude}
 use Rattle.vx_program.specs.Apply.{apply}
 use Rattle.vx_reader.specs.declared.command.Command.{Command}
 use Rattle.vx_reader.specs.declared.command.Command.TheVariants as c

@@ -2,10 +2,10 @@
 use Rattle.std.specs.Prelude.{ℕ, ◌-◌, ◌^◌, min, Bool, false, not, List, [], ◌∷◌, ◌++◌, length, filter, codes}
 use Rattle.std.specs.Int.{w32, to_be_bytes}
 use Rattle.std.specs.List.{flat_map}
-use Rattle.std.specs.Str.{bytes_eq}
 use Rattle.vx_syntax.specs.declared.decl.Decl.{Decl}
 use Rattle.vx_syntax.specs.declared.decl.Decl.TheVariants as d
-use Rattle.vx_syntax.specs.Declarations.{any}
+use Rattle.vx_names.specs.declared.key.DeclKey.TheVariants as k
+use Rattle.vx_program.specs.Prelude.{is_reserved}
 
 -- A number in four bytes, the highest first. One that does not fit them is written as the greatest that does.
 abbrev pub number_bytes : ℕ → List ℕ
@@ -22,7 +22,7 @@ object_bytes decl = []
 
 -- whether the declaration is a plain object and not the prelude's
 abbrev pub is_own : Decl → Bool
-is_own (d.Object name parents) = not (bytes_eq name any)
+is_own (d.Object name parents) = not (is_reserved (k.Object name))
 is_own decl = false
 
 -- what images begin with: `VXIC`, and the version in one byte

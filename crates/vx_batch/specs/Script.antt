@@ -6,7 +6,7 @@ use Rattle.vx_syntax.specs.Print.{key_text}
 use Rattle.vx_program.specs.declared.edit.Edit.{Edit}
 use Rattle.vx_program.specs.declared.edit.EditFault.{EditFault}
 use Rattle.vx_program.specs.declared.edit.EditFault.TheVariants as f
-use Rattle.vx_program.specs.Program.{prelude}
+use Rattle.vx_program.specs.Prelude.{prelude}
 use Rattle.vx_program.specs.Apply.{apply}
 use Rattle.vx_reader.specs.declared.command.Command.{Command}
 use Rattle.vx_reader.specs.declared.command.Command.TheVariants as c
@@ -14,7 +14,7 @@ use Rattle.vx_reader.specs.declared.command.ReadFault.{ReadFault}
 use Rattle.vx_reader.specs.declared.command.ReadFault.TheVariants as r
 use Rattle.vx_reader.specs.Reads.{Reads}
 use Rattle.vx_batch.specs.Image.{image_of}
-use Rattle.vx_batch.specs.Text.{accepted_text, exists_text, unknown_text, syntax_text, too_deep_text, number_too_large_text, not_yet_built_text, image_text, too_long_text}
+use Rattle.vx_batch.specs.Text.{accepted_text, reserved_text, exists_text, missing_text, unknown_text, wrong_kind_text, cycle_text, in_use_text, limit_text, syntax_text, too_deep_text, number_too_large_text, not_yet_built_text, image_text, too_long_text}
 use Rattle.vx_batch.specs.Listing.{list_text}
 use Rattle.vx_blocks.specs.declared.block.TheConstants.{BLOCK_BYTES}
 
@@ -34,9 +34,14 @@ after edits = after_from prelude edits
 -- the reply to an edit, after so many accepted ones
 abbrev pub edit_reply : ℕ → Result (List Decl) EditFault → List ℕ
 edit_reply count (Ok program) = accepted_text (count + 1)
+edit_reply count (Err (f.Reserved key)) = reserved_text (key_text key)
 edit_reply count (Err (f.Exists key)) = exists_text (key_text key)
+edit_reply count (Err (f.Missing key)) = missing_text (key_text key)
 edit_reply count (Err (f.Unknown name)) = unknown_text name
-edit_reply count (Err f.NotYetBuilt) = not_yet_built_text
+edit_reply count (Err (f.WrongKind name)) = wrong_kind_text name
+edit_reply count (Err (f.Cycle name)) = cycle_text name
+edit_reply count (Err (f.InUse name by)) = in_use_text name (key_text by)
+edit_reply count (Err (f.Limit which number)) = limit_text which number
 edit_reply count (Err f.OutOfMemory) = []
 
 -- The reply to a block that is read so, where the program stands after so many accepted edits. Applying never runs out of memory, and no block is read as want of memory.

@@ -3,6 +3,8 @@ use Rattle.std.specs.Prelude.{ℕ, zero, suc, ◌+◌, ◌/◌, List, [], ◌∷
 use Rattle.std.specs.Fmt.{decimal}
 use Rattle.std.specs.List.{flat_map}
 use Rattle.hex.specs.Hex.{encode_lower}
+use Rattle.vx_program.specs.declared.edit.Counted.{Counted}
+use Rattle.vx_program.specs.declared.edit.Counted.TheVariants.{Declarations, Methods, Locals, Depth}
 
 abbrev pub line : List ℕ → List ℕ
 line text = text ++ 10 ∷ []
@@ -11,13 +13,44 @@ line text = text ++ 10 ∷ []
 abbrev pub accepted_text : ℕ → List ℕ
 accepted_text count = line (codes "accepted " ++ decimal count)
 
+-- an edit names the key of this text, which no edit may name
+abbrev pub reserved_text : List ℕ → List ℕ
+reserved_text key = line (codes "refused reserved " ++ key)
+
 -- an edit would take the key of this text, which is taken
 abbrev pub exists_text : List ℕ → List ℕ
 exists_text key = line (codes "refused exists " ++ key)
 
+-- an edit names the key of this text, which no declaration has
+abbrev pub missing_text : List ℕ → List ℕ
+missing_text key = line (codes "refused missing " ++ key)
+
 -- an edit names this object, which is not there
 abbrev pub unknown_text : List ℕ → List ℕ
 unknown_text name = line (codes "refused unknown " ++ name)
+
+-- an edit names this object where none of its kind may stand
+abbrev pub wrong_kind_text : List ℕ → List ℕ
+wrong_kind_text name = line (codes "refused wrong kind " ++ name)
+
+-- this object would inherit from itself
+abbrev pub cycle_text : List ℕ → List ℕ
+cycle_text name = line (codes "refused cycle " ++ name)
+
+-- this object is named by the declaration with the key of the second text
+abbrev pub in_use_text : List ℕ → List ℕ → List ℕ
+in_use_text name by = line (codes "refused in use " ++ (name ++ (codes " by " ++ by)))
+
+-- the word for what there may not be too much of
+abbrev pub counted_word : Counted → List ℕ
+counted_word Declarations = codes "declarations"
+counted_word Methods = codes "methods"
+counted_word Locals = codes "locals"
+counted_word Depth = codes "depth"
+
+-- there would be so many, which is too many
+abbrev pub limit_text : Counted → ℕ → List ℕ
+limit_text which count = line (codes "refused limit " ++ (counted_word which ++ (codes " " ++ decimal count)))
 
 -- no command begins with the tokens up to this place
 abbrev pub syntax_text : ℕ → List ℕ

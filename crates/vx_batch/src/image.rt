@@ -1,11 +1,14 @@
 //! The image of a program.
 
-ghost use Rattle.std.specs.Prelude.{◌≡◌, ◌++◌, length, filter, IfOk, OnOk};
+ghost use Rattle.std.specs.Prelude.{◌≡◌, ◌++◌, not, length, filter, IfOk, OnOk};
+ghost use Rattle.vx_names.specs.declared.key.DeclKey.TheVariants as k;
+ghost use Rattle.vx_program.specs.Prelude.{is_reserved};
 ghost use Rattle.std.specs.List.{flat_map};
 ghost use Rattle.vx_batch.specs.Image.{number_bytes, name_bytes, object_bytes, is_own, image_of};
 
 use std::alloc::{AllocError, Global};
-use vx_names::Name;
+use vx_names::{DeclKey, Name};
+use vx_program::Reserved;
 use vx_syntax::Decl;
 
 // `VXIC`, and the version of the layout.
@@ -15,10 +18,11 @@ const IMAGE_HEAD: &[u8; 5] = b"VXIC\0";
 pub fn image(alloc: Global, decls: &[Decl]) -> Result<Vec<u8>, AllocError>
     ensures { IfOk result (λ bytes. bytes.items ≡ image_of decls.now) }
 {
+    let reserved = Reserved::new(alloc)?;
     let mut image = Vec::from_slice(alloc, IMAGE_HEAD)?;
-    append_number(&mut image, own_count(decls))?;
+    append_number(&mut image, own_count(alloc, &reserved, decls)?)?;
     for decl in decls {
-        if is_own(decl) {
+        if is_own(alloc, &reserved, decl)? {
             append_object(&mut image, decl)?;
         }
     }
@@ -26,25 +30,34 @@ pub fn image(alloc: Global, decls: &[Decl]) -> Result<Vec<u8>, AllocError>
 }
 
 // Whether the declaration is a plain object and no part of the prelude.
-fn is_own(decl: &Decl) -> bool
-    ensures { result ≡ is_own decl.now }
+fn is_own(alloc: Global, reserved: &Reserved, decl: &Decl) -> Result<bool, AllocError>
+    ensures { IfOk result (λ yes. yes ≡ is_own decl.now) }
 {
     match decl {
-        Decl::Object { name, .. } => !matches!(name.bytes(), b"any"),
-        _ => false,
+        Decl::Object { name, .. } => is_own_name(alloc, reserved, name),
+        _ => Ok(false),
     }
 }
 
-fn own_count(decls: &[Decl]) -> usize
-    ensures { result ≡ length (filter is_own decls.now) }
+fn is_own_name(alloc: Global, reserved: &Reserved, name: &Name) -> Result<bool, AllocError>
+    ensures { IfOk result (λ yes. yes ≡ not (is_reserved (k.Object name.now))) }
+{
+    let key = DeclKey::Object(name.copy(alloc)?);
+    let own = !reserved.has(&key);
+    drop(key);
+    Ok(own)
+}
+
+fn own_count(alloc: Global, reserved: &Reserved, decls: &[Decl]) -> Result<usize, AllocError>
+    ensures { IfOk result (λ count. count ≡ length (filter is_own decls.now)) }
 {
     let mut count = 0;
     for decl in decls {
-        if is_own(decl) {
+        if is_own(alloc, reserved, decl)? {
             count += 1;
         }
     }
-    count
+    Ok(count)
 }
 
 fn append_number(image: &mut Vec<u8>, number: usize) -> Result<(), AllocError>

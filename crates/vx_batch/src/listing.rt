@@ -6,15 +6,17 @@ ghost use Rattle.vx_batch.specs.Listing.{is_listed, listed_line, list_text};
 
 use crate::text::append_line;
 use std::alloc::{AllocError, Global};
+use vx_program::Reserved;
 use vx_syntax::{Decl, print_decl};
 
 /// The declarations besides the prelude, a line each, and how many these are.
 pub fn list(alloc: Global, decls: &[Decl]) -> Result<Vec<u8>, AllocError>
     ensures { IfOk result (λ text. text.items ≡ list_text decls.now) }
 {
+    let reserved = Reserved::new(alloc)?;
     let mut text = Vec::new(alloc);
-    append_listed(alloc, &mut text, decls)?;
-    let count = listed_count(decls);
+    append_listed(alloc, &reserved, &mut text, decls)?;
+    let count = listed_count(alloc, &reserved, decls)?;
     append_line(
         &mut text,
         b"= list ",
@@ -23,11 +25,16 @@ pub fn list(alloc: Global, decls: &[Decl]) -> Result<Vec<u8>, AllocError>
     Ok(text)
 }
 
-fn append_listed(alloc: Global, text: &mut Vec<u8>, decls: &[Decl]) -> Result<(), AllocError>
+fn append_listed(
+    alloc: Global,
+    reserved: &Reserved,
+    text: &mut Vec<u8>,
+    decls: &[Decl],
+) -> Result<(), AllocError>
     ensures { OnOk result (text.new.items ≡ text.old.items ++ flat_map listed_line (filter is_listed decls.now)) }
 {
     for decl in decls {
-        if is_listed(decl) {
+        if is_listed(alloc, reserved, decl)? {
             append_decl(alloc, text, decl)?;
         }
     }
@@ -42,23 +49,23 @@ fn append_decl(alloc: Global, text: &mut Vec<u8>, decl: &Decl) -> Result<(), All
 }
 
 // Whether the declaration is no part of the prelude.
-fn is_listed(decl: &Decl) -> bool
-    ensures { result ≡ is_listed decl.now }
+fn is_listed(alloc: Global, reserved: &Reserved, decl: &Decl) -> Result<bool, AllocError>
+    ensures { IfOk result (λ yes. yes ≡ is_listed decl.now) }
 {
-    match decl {
-        Decl::Object { name, .. } => name.bytes() != b"any".as_slice(),
-        _ => true,
-    }
+    let key = decl.key(alloc)?;
+    let own = !reserved.has(&key);
+    drop(key);
+    Ok(own)
 }
 
-fn listed_count(decls: &[Decl]) -> usize
-    ensures { result ≡ length (filter is_listed decls.now) }
+fn listed_count(alloc: Global, reserved: &Reserved, decls: &[Decl]) -> Result<usize, AllocError>
+    ensures { IfOk result (λ count. count ≡ length (filter is_listed decls.now)) }
 {
     let mut count = 0;
     for decl in decls {
-        if is_listed(decl) {
+        if is_listed(alloc, reserved, decl)? {
             count += 1;
         }
     }
-    count
+    Ok(count)
 }

@@ -1,5 +1,5 @@
 ghost use Rattle.std.specs.Prelude.{◌≡◌, ◌≤◌, ◌<◌, [], length, IfOk};
-ghost use Rattle.vx_program.specs.Program.{prelude};
+ghost use Rattle.vx_program.specs.Prelude.{prelude};
 ghost use Rattle.vx_batch.specs.Ends.{HasEnded};
 
 use crate::script::{Stop, answer_rest, answer_whole};

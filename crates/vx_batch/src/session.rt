@@ -1,5 +1,6 @@
 ghost use Rattle.std.specs.Prelude.{◌≡◌, ◌+◌, ◌<◌, ◌≤◌, ◌^◌, ℕ, List, IfOk};
-ghost use Rattle.vx_program.specs.Program.{prelude};
+ghost use Rattle.vx_program.specs.Prelude.{prelude};
+ghost use Rattle.vx_program.specs.Apply.{IsWritable};
 ghost use Rattle.vx_batch.specs.Script.{reply, Answers};
 ghost use Rattle.vx_blocks.specs.Block.{IsBlock};
 ghost use Rattle.vx_program.specs.declared.edit.Edit.{Edit};
@@ -73,7 +74,8 @@ impl Session {
     }
 
     fn edit(&mut self, alloc: Global, edit: &Edit) -> Result<Vec<u8>, AllocError>
-        requires { self.old.accepted + 1 < 2 ^ 64 }
+        requires room { self.old.accepted + 1 < 2 ^ 64 }
+        requires writable { IsWritable edit.now.changes }
         ensures counted { self.new.accepted ≤ self.old.accepted + 1 }
         ensures edited { IfOk result (λ text. IsEdited self.old.program self.new.program self.old.accepted self.new.accepted edit.now text.items) }
     {
@@ -105,9 +107,14 @@ fn refusal(alloc: Global, fault: EditFault) -> Result<Vec<u8>, AllocError>
     ensures { IfOk result (λ text. IsRefusal fault text.items) }
 {
     match fault {
+        EditFault::Reserved(key) => text::refused_reserved(alloc, &key),
         EditFault::Exists(key) => text::refused_exists(alloc, &key),
+        EditFault::Missing(key) => text::refused_missing(alloc, &key),
         EditFault::Unknown(name) => text::refused_unknown(alloc, &name),
-        EditFault::NotYetBuilt => text::refused_not_yet_built(alloc),
+        EditFault::WrongKind(name) => text::refused_wrong_kind(alloc, &name),
+        EditFault::Cycle(name) => text::refused_cycle(alloc, &name),
+        EditFault::InUse(name, by) => text::refused_in_use(alloc, &name, &by),
+        EditFault::Limit(which, count) => text::refused_limit(alloc, which, count),
         EditFault::OutOfMemory => Err(AllocError),
     }
 }

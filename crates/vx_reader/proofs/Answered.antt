@@ -13,8 +13,9 @@ use Rattle.vx_reader.specs.declared.state.State.TheVariants as st
 use Rattle.vx_reader.specs.Tokens.{placed_tokens, tokens_after, at, front, without_places}
 use Rattle.vx_reader.specs.Commands.{IsCommand, GoesOn}
 use Rattle.vx_reader.specs.CommandMachine.{command_step, command_finished, run_from}
-use Rattle.vx_reader.specs.Reads.{is_large, AreSmall, IsStuck, IsFine, IsAt, up_to, Means, AreRead, Reads, ended, reading, answer}
-use Rattle.vx_reader.proofs.Steps.{Laws, at_end, whole}
+use Rattle.vx_reader.specs.Reads.{is_large_token, AreSmall, IsStuck, IsFine, IsAt, up_to, Means, AreRead, Reads, ended, reading, answer}
+use Rattle.vx_reader.specs.Phrases.{Laws}
+use Rattle.vx_reader.proofs.Steps.{at_end, whole}
 use Rattle.vx_reader.proofs.Courses.{run_means, led, stuck, goes}
 use Rattle.vx_reader.proofs.Options.{none_from}
 use Rattle.vx_reader.proofs.OneToken.{syntax_read, deep_read, large_read, fine_read}
@@ -28,7 +29,7 @@ shallow_push : (levels : List ℕ) (ts : List Token) (t : Token) → IsShallow l
 shallow_push levels [] t h low = (low, tt)
 shallow_push levels (u ∷ ts) t h low = (h.0, shallow_push (counted levels u) ts t h.1 low)
 
-small_push : (ts : List Token) (t : Token) → AreSmall ts → is_large t ≡ false → AreSmall (ts ++ t ∷ [])
+small_push : (ts : List Token) (t : Token) → AreSmall ts → is_large_token t ≡ false → AreSmall (ts ++ t ∷ [])
 small_push [] t h is = (is, tt)
 small_push (u ∷ ts) t h is = (h.0, small_push ts t h.1 is)
 
@@ -151,7 +152,7 @@ module _ (laws : Laws) where
       further next = Halfway (done ++ p ∷ []) next → length ((done ++ p ∷ []) ++ rest) < 2 ^ 64 →
           AreRead ((done ++ p ∷ []) ++ rest) len (reading len next (levels_after first_levels (without_places (done ++ p ∷ []))) rest)
 
-      sized : (next : State) → command_step s p.token ≡ Some next → depth levels ≤ max_depth → (b : Bool) → is_large p.token ≡ b → further next →
+      sized : (next : State) → command_step s p.token ≡ Some next → depth levels ≤ max_depth → (b : Bool) → is_large_token p.token ≡ b → further next →
           AreRead (done ++ p ∷ rest) len (if b then Err (f.NumberTooLarge p.place) else reading len next levels rest)
       sized next is low true large more = record {
         at = at_token done rest p s h short;
@@ -170,20 +171,20 @@ module _ (laws : Laws) where
           }) (subst (λ l. length l < 2 ^ 64) (sym (append_assoc done (p ∷ []) rest)) short)))
 
       deep : (next : State) → command_step s p.token ≡ Some next → (b : Bool) → nat_lt max_depth (depth levels) ≡ b → further next →
-          AreRead (done ++ p ∷ rest) len (if b then Err (f.TooDeep p.place) else if is_large p.token then Err (f.NumberTooLarge p.place) else reading len next levels rest)
+          AreRead (done ++ p ∷ rest) len (if b then Err (f.TooDeep p.place) else if is_large_token p.token then Err (f.NumberTooLarge p.place) else reading len next levels rest)
       deep next is true under more = record {
         at = at_token done rest p s h short;
         here = goes_next done rest p s next h is short;
         deep = subst (λ l. max_depth < depth l) (sym (levels_at done rest p)) (ltb-true max_depth (depth levels) under);
       }
-      deep next is false under more = sized next is (ltb-false max_depth (depth levels) under) (is_large p.token) refl more
+      deep next is false under more = sized next is (ltb-false max_depth (depth levels) under) (is_large_token p.token) refl more
 
       stepped : (o : Option State) → command_step s p.token ≡ o → ((next : State) → further next) →
           AreRead (done ++ p ∷ rest) len (elim o [
             | None ↦ Err (f.Syntax p.place)
             | Some next ↦
                 if nat_lt max_depth (depth levels) then Err (f.TooDeep p.place) else
-                if is_large p.token then Err (f.NumberTooLarge p.place) else
+                if is_large_token p.token then Err (f.NumberTooLarge p.place) else
                 reading len next levels rest
           ])
       stepped None is more = inl (record {

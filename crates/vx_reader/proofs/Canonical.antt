@@ -1,6 +1,5 @@
 -- A block that adds a declaration by its canonical text means that addition.
-use Rattle.std.proofs.Common.{◌≡◌, ◌^◌, false, List, [], ◌∷◌, ◌++◌, codes, Ok, refl, sym, subst}
-use Rattle.std.proofs.lemmas.Bool.{lt-leb}
+use Rattle.std.proofs.Common.{◌≡◌, false, List, [], ◌∷◌, ◌++◌, codes, Ok, refl, sym, subst}
 use Rattle.vx_syntax.specs.declared.token.Token.{Token}
 use Rattle.vx_syntax.specs.declared.token.Token.TheVariants as k
 use Rattle.vx_syntax.specs.declared.decl.Decl.{Decl}
@@ -14,13 +13,13 @@ use Rattle.vx_program.specs.declared.edit.Change.TheVariants.{Add}
 use Rattle.vx_program.specs.Changes.{last_decl, adds, last_change}
 use Rattle.vx_reader.specs.declared.command.Command.TheVariants as c
 use Rattle.vx_reader.specs.Commands.{edit}
-use Rattle.vx_reader.specs.Reads.{is_large, AreSmall, Means, Reads}
+use Rattle.vx_reader.specs.Reads.{is_large_token, AreSmall, Means, Reads}
 use Rattle.vx_reader.proofs.CutDecls.{addition_cut}
 
-small : (token : Token) → IsMeant token → is_large token ≡ false
+small : (token : Token) → IsMeant token → is_large_token token ≡ false
 small (k.Word x) h = refl
 small (k.Keyword x) h = refl
-small (k.Number n) h = lt-leb (2 ^ 127) n h
+small (k.Number n) h = h
 small (k.Text bytes) h = refl
 small (k.Operator x) h = refl
 small (k.Mark x) h = refl

@@ -30,7 +30,8 @@ use Rattle.vx_reader.specs.CommandMachine.{changing, asking, started, run_for, m
 use Rattle.vx_reader.specs.CommandRemains as r
 use Rattle.vx_reader.specs.CommandRemains.{CommandRemains, CommandMoves}
 use Rattle.vx_reader.specs.Reads.{IsStuck}
-use Rattle.vx_reader.proofs.Steps.{Laws, complete, sound}
+use Rattle.vx_reader.specs.Phrases.{Laws}
+use Rattle.vx_reader.proofs.Steps.{complete, sound}
 
 -- the run from where a step leads
 abbrev on : Option State → List Token → Option State

@@ -1,6 +1,6 @@
 -- Words, numbers and strings are cut into their tokens.
 use Rattle.std.proofs.Common.{◌≡◌, ℕ, ℤ, zero, suc, pos, negsuc, ◌==◌, ◌+◌, ◌<◌, ◌≤◌, ◌^◌, min, true, false, List, [], ◌∷◌, ◌++◌, length, refl, sym, ap, ◌∙◌, arith}
-use Rattle.std.proofs.lemmas.Bool.{cond-true, le-leb, ne_eqb, or_parts}
+use Rattle.std.proofs.lemmas.Bool.{cond-true, le-leb, leb-false, ne_eqb, or_parts}
 use Rattle.std.proofs.lemmas.Bool.Decides.{nat_tests}
 use Rattle.std.proofs.lemmas.Fmt.{decimal_by_steps_wide, decimal_is_IsNumeral_wide}
 use Rattle.std.specs.Char.{is_ascii_digit}
@@ -107,8 +107,9 @@ digits_behind (d ∷ ds) rest some all =
     (ne_eqb d 43 (λ e. omega (arith, range.0)), ne_eqb d 45 (λ e. omega (arith, range.0)), ne_eqb d 61 (λ e. omega (arith, range.1)))
 
 pub literal_cut : (n : ℤ) → IsLiteral n → Cuts Ends (signed_decimal n) (printed_number n)
-literal_cut (pos n) small = number_cut n small
+literal_cut (pos n) small = number_cut n (leb-false (2 ^ 127) n small)
 literal_cut (negsuc n) small =
+    let low : suc n < 2 ^ 127 = leb-false (2 ^ 127) (suc n) small in
     let short : suc n < 10 ^ 64 = omega arith in
-    behind (operator_cut o.Minus) (number_cut (suc n) small)
+    behind (operator_cut o.Minus) (number_cut (suc n) low)
     (λ rest ends. digits_behind (decimal (suc n)) rest (decimal_is_IsNumeral_wide (suc n) short).0.0 (decimal_digits (suc n) short))

@@ -15,7 +15,7 @@ use Rattle.vx_reader.specs.declared.state.State.{State}
 use Rattle.vx_reader.specs.declared.state.State.TheVariants as st
 use Rattle.vx_reader.specs.CommandMachine.{command_step, in_decl, in_key}
 use Rattle.vx_reader.specs.Progress.{fitted}
-use Rattle.vx_reader.specs.Reads.{is_large}
+use Rattle.vx_reader.specs.Reads.{is_large_token}
 use Rattle.vx_reader.proofs.Options.{none_of, some_of}
 
 none_decl : (put : Bool) (before : List Change) (o : Option DeclState) → is_none (in_decl put before o) ≡ is_none o
@@ -48,7 +48,7 @@ abbrev pub Alike : Type 0
 Alike = (s : State) (i n : ℕ) → 2 ^ 127 ≤ i + 1 → 2 ^ 127 ≤ n + 1 → is_none (command_step s (k.Number i)) ≡ is_none (command_step s (k.Number n))
 
 -- the token that is stepped with goes on exactly where the token does
-same_step : Alike → (s : State) (t : Token) (b : Bool) → is_large t ≡ b → is_none (command_step s (if b then k.Number (2 ^ 127 - 1) else t)) ≡ is_none (command_step s t)
+same_step : Alike → (s : State) (t : Token) (b : Bool) → is_large_token t ≡ b → is_none (command_step s (if b then k.Number (2 ^ 127 - 1) else t)) ≡ is_none (command_step s t)
 same_step alike s t false small = refl
 same_step alike s (k.Number n) true large = alike s (2 ^ 127 - 1) n (omega arith) (omega (arith, leb-true (2 ^ 127) n large))
 same_step alike s (k.Word x) true large = absurd (cc large)
@@ -60,8 +60,8 @@ same_step alike s k.Bad true large = absurd (cc large)
 
 -- where the fitted token is refused, the token itself is
 pub refused : Alike → (s : State) (t : Token) → None ≡ command_step s (fitted t) → command_step s t ≡ None
-refused alike s t is = none_of (command_step s t) (sym (same_step alike s t (is_large t) refl) ∙ ap is_none (sym is))
+refused alike s t is = none_of (command_step s t) (sym (same_step alike s t (is_large_token t) refl) ∙ ap is_none (sym is))
 
 -- where some command goes on with the fitted token, one goes on with the token itself
 pub taken : Alike → (s next : State) (t : Token) → Some next ≡ command_step s (fitted t) → (other : State) × (command_step s t ≡ Some other)
-taken alike s next t is = some_of (command_step s t) (sym (same_step alike s t (is_large t) refl) ∙ ap is_none (sym is))
+taken alike s next t is = some_of (command_step s t) (sym (same_step alike s t (is_large_token t) refl) ∙ ap is_none (sym is))

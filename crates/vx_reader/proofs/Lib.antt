@@ -18,3 +18,6 @@ mod CutStrings
 mod CutTrees
 mod CutDecls
 mod Canonical
+mod BadTokens
+mod Spelled
+mod Writable

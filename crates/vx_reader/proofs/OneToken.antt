@@ -9,14 +9,14 @@ use Rattle.vx_reader.specs.declared.command.ReadFault.{ReadFault}
 use Rattle.vx_reader.specs.declared.command.ReadFault.TheVariants as f
 use Rattle.vx_reader.specs.declared.state.State.{State}
 use Rattle.vx_reader.specs.CommandMachine.{command_step}
-use Rattle.vx_reader.specs.Reads.{is_large, reading}
+use Rattle.vx_reader.specs.Reads.{is_large_token, reading}
 
 module _ (len : ℕ) (s : State) (levels : List ℕ) (p : Placed) (rest : List Placed) where
   -- the answer, where the token leads to a state
   abbrev judged : State → Result Command ReadFault
   judged next =
       if nat_lt max_depth (depth (counted levels p.token)) then Err (f.TooDeep p.place) else
-      if is_large p.token then Err (f.NumberTooLarge p.place) else
+      if is_large_token p.token then Err (f.NumberTooLarge p.place) else
       reading len next (counted levels p.token) rest
 
   stepped : (o : Option State) → command_step s p.token ≡ o → reading len s levels (p ∷ rest) ≡ elim o [ None ↦ Err (f.Syntax p.place) | Some next ↦ judged next ]
@@ -30,14 +30,14 @@ module _ (len : ℕ) (s : State) (levels : List ℕ) (p : Placed) (rest : List P
   deep_read next is deep = stepped (Some next) is ∙ cond-true _ _ _ (lt-ltb max_depth (depth (counted levels p.token)) deep)
 
   shallow_read : (next : State) → command_step s p.token ≡ Some next → depth (counted levels p.token) ≤ max_depth →
-      reading len s levels (p ∷ rest) ≡ (if is_large p.token then Err (f.NumberTooLarge p.place) else reading len next (counted levels p.token) rest)
+      reading len s levels (p ∷ rest) ≡ (if is_large_token p.token then Err (f.NumberTooLarge p.place) else reading len next (counted levels p.token) rest)
   shallow_read next is low = stepped (Some next) is ∙ cond-false _ _ _ (le-ltb max_depth (depth (counted levels p.token)) low)
 
-  pub large_read : (next : State) → command_step s p.token ≡ Some next → depth (counted levels p.token) ≤ max_depth → is_large p.token ≡ true →
+  pub large_read : (next : State) → command_step s p.token ≡ Some next → depth (counted levels p.token) ≤ max_depth → is_large_token p.token ≡ true →
       reading len s levels (p ∷ rest) ≡ Err (f.NumberTooLarge p.place)
   large_read next is low large = shallow_read next is low ∙ cond-true _ _ _ large
 
   -- nothing is wrong with the token, and reading goes on behind it
-  pub fine_read : (next : State) → command_step s p.token ≡ Some next → depth (counted levels p.token) ≤ max_depth → is_large p.token ≡ false →
+  pub fine_read : (next : State) → command_step s p.token ≡ Some next → depth (counted levels p.token) ≤ max_depth → is_large_token p.token ≡ false →
       reading len s levels (p ∷ rest) ≡ reading len next (counted levels p.token) rest
   fine_read next is low small = shallow_read next is low ∙ cond-false _ _ _ small

@@ -1,5 +1,5 @@
 -- A step of the reader of commands follows the grammar.
-use Rattle.std.proofs.Common.{◌≡◌, ℕ, ◌+◌, ◌^◌, ◌<◌, ◌≤◌, ◌↔◌, Bool, true, false, if◌then◌else◌, ◌||◌, ◌⊎◌, inl, inr, List, [], ◌∷◌, ◌++◌, Option, Some, None, refl, sym, ap, subst, ◌∙◌}
+use Rattle.std.proofs.Common.{◌≡◌, ℕ, ◌≤◌, Bool, true, false, if◌then◌else◌, ◌||◌, ◌⊎◌, inl, inr, List, [], ◌∷◌, ◌++◌, Option, Some, None, refl, sym, ap, subst, ◌∙◌}
 use Rattle.std.proofs.lemmas.Bool.{leb-true, le-leb}
 use Rattle.std.proofs.lemmas.Slice.Eq.{bytes_eq-Decides}
 use Rattle.std.specs.Prelude.{nat_le}
@@ -19,10 +19,10 @@ use Rattle.vx_program.specs.declared.edit.Change.{Change}
 use Rattle.vx_program.specs.declared.edit.Change.TheVariants.{Drop}
 use Rattle.vx_program.specs.Changes as h
 use Rattle.vx_program.specs.Changes.{declared, IsDecls, IsKeys, IsChange, IsChanges}
-use Rattle.vx_phrases.specs.Laws.{Moves, IsComplete, IsSound, Ends, IsEnd, Completion}
+use Rattle.vx_phrases.specs.Laws.{Moves}
 use Rattle.vx_phrases.specs.declared.decl_state.DeclState.{DeclState}
 use Rattle.vx_phrases.specs.declared.key_state.KeyState.{KeyState}
-use Rattle.vx_phrases.specs.DeclMachine.{decl_begun, decl_begins, decl_step, decl_finished, names_in}
+use Rattle.vx_phrases.specs.DeclMachine.{decl_begun, decl_begins, decl_step, decl_finished}
 use Rattle.vx_phrases.specs.KeyMachine.{key_begun, key_step, key_finished}
 use Rattle.vx_phrases.specs.DeclRemains.{DeclRemains}
 use Rattle.vx_phrases.specs.KeyRemains.{KeyRemains}
@@ -34,30 +34,9 @@ use Rattle.vx_reader.specs.declared.state.State.TheVariants as st
 use Rattle.vx_reader.specs.Commands as g
 use Rattle.vx_reader.specs.Commands.{run_word, mean_word, image_word, why_word, list_word, journal_word, IsCommand}
 use Rattle.vx_reader.specs.CommandMachine.{changing, asking, started, run_for, mean_for, opens, in_decl, in_key, after_decl, after_key, declaring, dropping, command_step, command_finished, with_decl, with_key}
+use Rattle.vx_reader.specs.Phrases.{Laws}
 use Rattle.vx_reader.specs.CommandRemains as r
 use Rattle.vx_reader.specs.CommandRemains.{AfterChange, AfterDecl, AfterKey, CommandRemains, CommandMoves}
-
--- what the readers of declarations and keys keep
-pub record Laws : Type 0 where
-  pub decl_complete : IsComplete DeclRemains decl_step decl_finished
-  pub decl_sound : IsSound DeclRemains decl_step
-  pub decl_ends : Ends DeclRemains decl_finished
-  pub decl_at_end : IsEnd DeclRemains decl_finished
-  pub decl_from : (ts us : List Token) (v : Decl) → (DeclRemains decl_begun ts us v ↔ IsDecl ts us v)
-  pub decl_opens : (s : DeclState) (v : Decl) (t : Token) (next : DeclState) → decl_finished s ≡ Some v → decl_begins t ≡ Some next → decl_step s t ≡ None
-  pub decl_words : (s : DeclState) (v : Decl) (x : Bytes) → decl_finished s ≡ Some v → is_among (and_word ∷ or_word ∷ []) x ≡ false → decl_step s (k.Word x) ≡ None
-  pub decl_finish : (s : DeclState) → names_in s < 2 ^ 64 → Completion (DeclRemains s)
-  pub decl_grows : (s next : DeclState) (t : Token) → decl_step s t ≡ Some next → names_in next ≤ names_in s + 1
-  pub key_complete : IsComplete KeyRemains key_step key_finished
-  pub key_sound : IsSound KeyRemains key_step
-  pub key_ends : Ends KeyRemains key_finished
-  pub key_at_end : IsEnd KeyRemains key_finished
-  pub key_from : (ts us : List Token) (v : DeclKey) → (KeyRemains key_begun ts us v ↔ IsKey ts us v)
-  pub key_finish : (s : KeyState) → Completion (KeyRemains s)
-  pub key_over : (s : KeyState) (v : DeclKey) (t : Token) → key_finished s ≡ Some v → key_step s t ≡ None
-
-same : (xs ys : Bytes) → bytes_eq xs ys ≡ true → xs ≡ ys
-same xs ys e = (bytes_eq-Decides xs ys).0 e
 
 -- what holds of each of some words holds of a word among them
 among_all : (ws : List Bytes) (P : Bytes → Type 0) → AllByRecursion P ws → (x : Bytes) → is_among ws x ≡ true → P x
@@ -65,7 +44,7 @@ among_all [] P h x e = absurd (cc e)
 among_all (y ∷ ws) P h x e = pick (bytes_eq y x) refl (among_all ws P h.1 x) e
   where
     pick : (b : Bool) → bytes_eq y x ≡ b → (is_among ws x ≡ true → P x) → (b || is_among ws x) ≡ true → P x
-    pick true is others e = subst P (same y x is) h.0
+    pick true is others e = subst P ((bytes_eq-Decides y x).0 is) h.0
     pick false is others e = others e
 
 -- a word that begins a change joins no tests
@@ -305,14 +284,14 @@ module _ (laws : Laws) where
       third : (b : Bool) → bytes_eq x drop_word ≡ b → CommandMoves (if b then Some (st.Dropping before key_begun) else None) ts v → AfterChange before (k.Word x ∷ ts) v
       third true is moves =
           let all = dropping_all before ts v moves in
-          subst (λ y. AfterChange before (k.Word y ∷ ts) v) (sym (same x drop_word is)) (after_one (h.drops all.all) all.rest)
+          subst (λ y. AfterChange before (k.Word y ∷ ts) v) (sym ((bytes_eq-Decides x drop_word).0 is)) (after_one (h.drops all.all) all.rest)
       third false is moves = absurd moves
 
       second : (b : Bool) → bytes_eq x put_word ≡ b → CommandMoves (if b then Some (st.Declaring true before decl_begun) else
           if bytes_eq x drop_word then Some (st.Dropping before key_begun) else None) ts v → AfterChange before (k.Word x ∷ ts) v
       second true is moves =
           let all = declaring_all true before ts v moves in
-          subst (λ y. AfterChange before (k.Word y ∷ ts) v) (sym (same x put_word is)) (after_one (h.puts all.all) all.rest)
+          subst (λ y. AfterChange before (k.Word y ∷ ts) v) (sym ((bytes_eq-Decides x put_word).0 is)) (after_one (h.puts all.all) all.rest)
       second false is moves = third (bytes_eq x drop_word) refl moves
 
       first : (b : Bool) → bytes_eq x add_word ≡ b → CommandMoves (if b then Some (st.Declaring false before decl_begun) else
@@ -320,7 +299,7 @@ module _ (laws : Laws) where
           if bytes_eq x drop_word then Some (st.Dropping before key_begun) else None) ts v → AfterChange before (k.Word x ∷ ts) v
       first true is moves =
           let all = declaring_all false before ts v moves in
-          subst (λ y. AfterChange before (k.Word y ∷ ts) v) (sym (same x add_word is)) (after_one (h.adds all.all) all.rest)
+          subst (λ y. AfterChange before (k.Word y ∷ ts) v) (sym ((bytes_eq-Decides x add_word).0 is)) (after_one (h.adds all.all) all.rest)
       first false is moves = second (bytes_eq x put_word) refl moves
 
   edit_of : {t : Token} {ts : List Token} {v : Command} → AfterChange [] (t ∷ ts) v → IsCommand (t ∷ ts) v
@@ -330,7 +309,7 @@ module _ (laws : Laws) where
   one_word : (x word : Bytes) (b : Bool) (s : State) (others : Option State) (ts : List Token) (v : Command) → bytes_eq x word ≡ b →
       (CommandRemains s ts v → IsCommand (k.Word word ∷ ts) v) → (CommandMoves others ts v → IsCommand (k.Word x ∷ ts) v) →
       CommandMoves (if b then Some s else others) ts v → IsCommand (k.Word x ∷ ts) v
-  one_word x word true s others ts v is it other moves = subst (λ y. IsCommand (k.Word y ∷ ts) v) (sym (same x word is)) (it moves)
+  one_word x word true s others ts v is it other moves = subst (λ y. IsCommand (k.Word y ∷ ts) v) (sym ((bytes_eq-Decides x word).0 is)) (it moves)
   one_word x word false s others ts v is it other moves = other moves
 
   running : {ts : List Token} {v : Command} → CommandRemains st.Run ts v → IsCommand (k.Word run_word ∷ ts) v

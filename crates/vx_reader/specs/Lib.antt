@@ -4,6 +4,7 @@ pub mod Tokens
 pub mod Commands
 pub mod CommandMachine
 pub mod CommandRemains
+pub mod Phrases
 pub mod Reads
 pub mod OpenLevels
 pub mod Progress

@@ -8,11 +8,11 @@ use Rattle.vx_reader.specs.declared.command.ReadFault.{ReadFault}
 use Rattle.vx_reader.specs.declared.command.ReadFault.TheVariants as f
 use Rattle.vx_reader.specs.declared.reader.Progress.{Progress}
 use Rattle.vx_reader.specs.OpenLevels.{all, Adds}
-use Rattle.vx_reader.specs.Reads.{is_large, reading}
+use Rattle.vx_reader.specs.Reads.{is_large_token, reading}
 
 -- the greatest number of the language in place of a larger one
 abbrev pub fitted : Token → Token
-fitted token = if is_large token then k.Number (2 ^ 127 - 1) else token
+fitted token = if is_large_token token then k.Number (2 ^ 127 - 1) else token
 
 -- The reader goes on from where the token leads.
 pub record Follows (before : Progress) (placed : Placed) (next : Progress) : Type 0 where

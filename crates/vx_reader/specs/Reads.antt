@@ -1,11 +1,14 @@
 -- How a block is read: as the command that its tokens mean, or with the fault that comes first.
-use Rattle.std.specs.Prelude.{◌≡◌, ℕ, ◌+◌, ◌<◌, ◌≤◌, ◌^◌, nat_le, nat_lt, Bool, true, false, if◌then◌else◌, ◌⊎◌, List, [], ◌∷◌, ◌++◌, length, take, slice_get, Option, Some, None, Result, Ok, Err}
+use Rattle.std.specs.Prelude.{◌≡◌, ℕ, ◌+◌, ◌<◌, ◌≤◌, nat_lt, Bool, true, false, if◌then◌else◌, ◌⊎◌, List, [], ◌∷◌, ◌++◌, length, take, slice_get, Option, Some, None, Result, Ok, Err}
 use Rattle.std.specs.List.{AllByRecursion}
 use Rattle.vx_syntax.specs.declared.token.Token.{Token}
 use Rattle.vx_syntax.specs.declared.token.Token.TheVariants as k
+use Rattle.vx_syntax.specs.Words.{is_large}
 use Rattle.vx_syntax.specs.Depth.{max_depth, first_levels, counted, depth, levels_after, IsShallow}
+use Rattle.vx_program.specs.Apply.{IsWritable}
 use Rattle.vx_reader.specs.declared.token.Placed.{Placed}
 use Rattle.vx_reader.specs.declared.command.Command.{Command}
+use Rattle.vx_reader.specs.declared.command.Command.TheVariants as c
 use Rattle.vx_reader.specs.declared.command.ReadFault.{ReadFault}
 use Rattle.vx_reader.specs.declared.command.ReadFault.TheVariants as f
 use Rattle.vx_reader.specs.declared.state.State.{State}
@@ -15,13 +18,13 @@ use Rattle.vx_reader.specs.Commands.{IsCommand, GoesOn}
 use Rattle.vx_reader.specs.CommandMachine.{command_step, command_finished}
 
 -- whether the token is a number above those of the language
-abbrev pub is_large : Token → Bool
-is_large (k.Number n) = nat_le (2 ^ 127) n
-is_large token = false
+abbrev pub is_large_token : Token → Bool
+is_large_token (k.Number n) = is_large n
+is_large_token token = false
 
 -- no number of the tokens is too large
 abbrev pub AreSmall : List Token → Type 0
-AreSmall ts = AllByRecursion (λ token. is_large token ≡ false) ts
+AreSmall ts = AllByRecursion (λ token. is_large_token token ≡ false) ts
 
 -- No command begins with the tokens.
 abbrev pub IsStuck : List Token → Type 0
@@ -64,7 +67,7 @@ pub record IsTooLargeAt (placed : List Placed) (place : ℕ) : Type 0 where
   pub at : IsAt placed place
   pub here : GoesOn (up_to placed place at)
   pub shallow : depth (levels_after first_levels (up_to placed place at)) ≤ max_depth
-  pub large : is_large at.token ≡ true
+  pub large : is_large_token at.token ≡ true
 
 -- The tokens mean the command, none of them lies too deep, and no number of them is too large.
 pub record Means (ts : List Token) (v : Command) : Type 0 where
@@ -89,6 +92,11 @@ abbrev pub Says : List ℕ → Result Command ReadFault → Type 0
 Says bytes (Err f.OutOfMemory) = Unit {0}
 Says bytes answer = Reads bytes answer
 
+-- The command is no edit, or one that can be written.
+abbrev pub IsUsable : Command → Type 0
+IsUsable (c.Edit edit) = IsWritable edit.changes
+IsUsable command = Unit {0}
+
 -- what the reader answers at the end of a block of so many bytes
 abbrev pub ended : ℕ → Option Command → Result Command ReadFault
 ended len (Some v) = Ok v
@@ -101,7 +109,7 @@ reading len state levels (placed ∷ rest) = elim (command_step state placed.tok
   | None ↦ Err (f.Syntax placed.place)
   | Some next ↦
       if nat_lt max_depth (depth (counted levels placed.token)) then Err (f.TooDeep placed.place) else
-      if is_large placed.token then Err (f.NumberTooLarge placed.place) else
+      if is_large_token placed.token then Err (f.NumberTooLarge placed.place) else
       reading len next (counted levels placed.token) rest
 ]
 

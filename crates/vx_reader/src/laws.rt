@@ -5,22 +5,26 @@ ghost use Rattle.vx_syntax.specs.Counts.{height};
 ghost use Rattle.vx_syntax.specs.Print.{decl_text};
 ghost use Rattle.vx_syntax.specs.Written.{IsDeclWritten};
 ghost use Rattle.vx_program.specs.declared.edit.Change.TheVariants.{Add};
+ghost use Rattle.vx_program.specs.declared.edit.Edit as program;
+ghost use Rattle.vx_program.specs.Apply.{IsWritable};
 ghost use Rattle.vx_reader.specs.declared.command.Command.{Command};
 ghost use Rattle.vx_reader.specs.declared.command.Command.TheVariants.{Edit};
 ghost use Rattle.vx_reader.specs.declared.command.ReadFault.{ReadFault};
 ghost use Rattle.vx_reader.specs.declared.state.State.{State};
 ghost use Rattle.vx_reader.specs.CommandMachine.{command_step};
+ghost use Rattle.vx_reader.specs.Phrases.{Laws};
 ghost use Rattle.vx_reader.specs.Reads.{Reads, answer};
 
 use vx_phrases::{
     decl_steps_follow_the_grammar, decls_can_be_finished, decls_end_before_others,
     key_steps_follow_the_grammar,
 };
+use vx_program::writable_edits_are_read;
 use vx_syntax::{canonical_tokens_are_shallow, written_declarations_are_read};
 
-/// Each block is read in one way, the reader's answer.
-pub fn every_block_is_read()
-    ensures { (bytes : List ℕ) → length bytes < 2 ^ 64 → Reads bytes (answer bytes) }
+// What the readers of declarations and keys keep.
+fn phrases_are_read()
+    ensures { Laws }
 {
     decl_steps_follow_the_grammar();
     decls_can_be_finished();
@@ -28,14 +32,26 @@ pub fn every_block_is_read()
     key_steps_follow_the_grammar();
 }
 
+/// Each block is read in one way, the reader's answer.
+pub fn every_block_is_read()
+    ensures { (bytes : List ℕ) → length bytes < 2 ^ 64 → Reads bytes (answer bytes) }
+{
+    phrases_are_read();
+}
+
 /// No block is read in two ways.
 pub fn one_reading()
     ensures { (bytes : List ℕ) (a b : Result Command ReadFault) → length bytes < 2 ^ 64 → Reads bytes a → Reads bytes b → a ≡ b }
 {
-    decl_steps_follow_the_grammar();
-    decls_can_be_finished();
-    decls_end_before_others();
-    key_steps_follow_the_grammar();
+    phrases_are_read();
+}
+
+/// An edit that is read can be written.
+pub fn read_edits_are_writable()
+    ensures { (bytes : List ℕ) (edit : program.Edit) → Reads bytes (Ok (Edit edit)) → IsWritable edit.changes }
+{
+    phrases_are_read();
+    writable_edits_are_read();
 }
 
 /// Whether a command goes on with a number does not depend on the number, where it is as great as any of the language.

@@ -17,7 +17,9 @@ mod token;
 mod tokenizer;
 
 pub use command::{Command, ReadFault};
-pub use laws::{canonical_additions_are_read, every_block_is_read, one_reading};
+pub use laws::{
+    canonical_additions_are_read, every_block_is_read, one_reading, read_edits_are_writable,
+};
 pub use reader::read_block;
 pub use token::Placed;
 pub use tokenizer::tokens;

@@ -8,7 +8,7 @@ ghost use Rattle.vx_reader.specs.Reads as spec;
 
 use crate::command::{Command, ReadFault};
 use crate::command_steps::{command_finished, command_step};
-use crate::laws::{every_block_is_read, great_numbers_are_alike};
+use crate::laws::{every_block_is_read, great_numbers_are_alike, read_edits_are_writable};
 use crate::levels::{Levels, MOST_DEPTH};
 use crate::state::State;
 use crate::token::Placed;
@@ -22,7 +22,7 @@ const LARGE: u128 = 1 << 127;
 
 // Whether the token is a number above those of the language.
 fn is_large(token: &Token) -> bool
-    ensures { result ≡ spec.is_large token.now }
+    ensures { result ≡ spec.is_large_token token.now }
 {
     match token {
         Token::Number(n) => *n >= LARGE,
@@ -90,9 +90,11 @@ fn after(alloc: Global, progress: Progress, placed: &Placed) -> Result<Progress,
 
 /// Reads a block of bytes as a command.
 pub fn read_block(alloc: Global, bytes: &[u8]) -> Result<Command, ReadFault>
-    ensures { spec.Says bytes.now result }
+    ensures says { spec.Says bytes.now result }
+    ensures writable { IfOk result spec.IsUsable }
 {
     every_block_is_read();
+    read_edits_are_writable();
     let len = block_len(bytes);
     let tokens = tokens(alloc, bytes)?;
     let mut progress = Progress {

@@ -1,9 +1,9 @@
 ghost use Rattle.std.specs.Prelude.{◌≡◌, IfOk};
-ghost use Rattle.vx_names.specs.Name.{IsIdentifier, IsName};
+ghost use Rattle.vx_names.specs.Name.{IsIdentifier};
 ghost use Rattle.vx_reader.specs.Tokens.{word};
 
 use std::alloc::{AllocError, Global};
-use vx_names::{NAME_BYTES, Name};
+use vx_names::{NAME_BYTES, name_of};
 use vx_syntax::{Keyword, Token};
 
 /// The token that an identifier is.
@@ -17,14 +17,5 @@ pub fn word(alloc: Global, bytes: &[u8]) -> Result<Token, AllocError>
     if bytes.len() > NAME_BYTES {
         return Ok(Token::Bad);
     }
-    Ok(Token::Word(name(alloc, bytes)?))
-}
-
-/// The name of these bytes.
-pub fn name(alloc: Global, bytes: &[u8]) -> Result<Name, AllocError>
-    requires { IsName bytes.now }
-    ensures { IfOk result (λ name. name ≡ bytes.now) }
-{
-    // The bytes of a name are refused for want of memory alone.
-    Name::new(alloc, bytes).map_err(|_| AllocError)
+    Ok(Token::Word(name_of(alloc, bytes)?))
 }
