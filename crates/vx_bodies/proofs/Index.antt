@@ -2,16 +2,13 @@
 use Rattle.std.proofs.Common.{◌≡◌, ◌||◌, ◌&&◌, not, Bool, true, false, cond, if◌then◌else◌, [], ◌∷◌, Some, None, refl, sym, ap, ◌∙◌}
 use Rattle.std.proofs.lemmas.Slice.Eq.{bytes_eq-Decides}
 use Rattle.std.proofs.lemmas.Map.Text.{is_eq-slice_cmp}
-use Rattle.std.specs.BTreeMap.{BTreeMap, IsEmpty, Updates, get}
+use Rattle.std.specs.BTreeMap.{BTreeMap, Updates, get}
 use Rattle.std.specs.Cmp.Lexicographic.{slice_cmp}
 use Rattle.std.specs.Ordering.{nat_cmp}
 use Rattle.std.specs.Str.{bytes_eq}
 use Rattle.vx_syntax.specs.Expressions.{Bytes, Scope, is_bound, is_variable}
 use Rattle.vx_bodies.specs.Scopes.{is_listed, may_change, IsIndex}
 use Rattle.vx_bodies.proofs.Scopes.{bound_is, variable_is}
-
-pub indexed_none : (index : BTreeMap Bytes Bool) → IsEmpty index → IsIndex index []
-indexed_none index empty x = rw empty refl
 
 pub indexed_more : (index more : BTreeMap Bytes Bool) (scope : Scope) (x : Bytes) (variable flag : Bool) → IsIndex index scope →
     flag ≡ (variable || is_variable scope x) → Updates (slice_cmp nat_cmp) index more x (Some flag) → IsIndex more ((x, variable) ∷ scope)
