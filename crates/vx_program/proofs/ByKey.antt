@@ -2,7 +2,6 @@
 use Rattle.std.proofs.Common.{◌≡◌, [], Bool, true, false, refl, sym, ap, ◌∙◌, subst, inl, Equal}
 use Rattle.std.specs.Cmp.{Equal-is}
 use Rattle.std.specs.Ordering.{is_eq, ordering_then}
-use Rattle.std.specs.Str.{bytes_eq}
 use Rattle.std.proofs.lemmas.Bool.{false≢true}
 use Rattle.vx_names.specs.declared.key.Selector.{Selector}
 use Rattle.vx_names.specs.declared.key.MethodKey.{MethodKey}

@@ -1,5 +1,5 @@
 -- What holds where a change has no fault.
-use Rattle.std.proofs.Common.{◌≡◌, ℕ, ◌≤◌, min, ◌-◌, ◌^◌, List, [], ◌∷◌, Bool, true, false, cond, Option, Some, None, refl, sym, ap, ◌∙◌, subst, inl, inr, option_map, nat_lt, filter, ltb-false, arith}
+use Rattle.std.proofs.Common.{◌≡◌, ℕ, ◌≤◌, List, [], ◌∷◌, Bool, true, false, cond, Option, Some, None, refl, sym, ap, ◌∙◌, subst, inl, inr, option_map, nat_lt, filter, ltb-false}
 use Rattle.std.proofs.lemmas.Bool.{cond-true}
 use Rattle.vx_names.specs.declared.key.MethodKey.{MethodKey}
 use Rattle.vx_names.specs.declared.key.DeclKey.{DeclKey}

@@ -1,4 +1,4 @@
-use Rattle.std.proofs.Common.{◌≡◌, ◌+◌, take, map, sum_by, count_by}
+use Rattle.std.proofs.Common.{◌≡◌, ◌+◌, take, sum_by, count_by}
 use Rattle.vx_syntax.specs.Counts.{capped}
 use Rattle.vx_program.specs.Prelude.{primitive_keys}
 use Rattle.vx_program.specs.Program.{is_method_of, methods_made}

@@ -1,4 +1,4 @@
-use Rattle.std.proofs.Common.{◌≡◌, ◌∷◌, ◌+◌, ◌∙◌, sym, ap, drop, Some}
+use Rattle.std.proofs.Common.{◌∷◌, ◌+◌, ◌∙◌, sym, ap, drop, Some}
 use Rattle.std.proofs.lemmas.List.{at_drop_more}
 use Rattle.vx_program.specs.declared.edit.EditFault.TheVariants.{Unknown}
 use Rattle.vx_program.specs.Apply.{unknown_fault}

@@ -1,4 +1,4 @@
-use Rattle.std.proofs.Common.{◌≡◌, true, ◌∙◌, sym, ap, rules}
+use Rattle.std.proofs.Common.{◌≡◌, true, ◌∙◌, ap, rules}
 use Rattle.vx_program.specs.Program.{has_key}
 use Rattle.vx_program.proofs.Lookups.{put_found, dropped_found}
 use Rattle.vx_program.proofs.lookup.position.Goals as goal
