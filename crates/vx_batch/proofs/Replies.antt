@@ -1,5 +1,5 @@
 -- Replies to blocks, joined: to some and then to more, whole or in part.
-use Rattle.std.proofs.Common.{◌≡◌, ℕ, ◌^◌, ◌<◌, ◌≤◌, List, [], ◌∷◌, ◌++◌, length, Option, Some, None, Result, refl, sym, ap, ◌∙◌, subst, append_assoc, length-append, arith, inl, inr}
+use Rattle.std.proofs.Common.{◌≡◌, ℕ, ◌^◌, ◌<◌, ◌≤◌, List, [], ◌∷◌, ◌++◌, length, Option, Some, None, Result, Ok, Err, refl, sym, ap, ◌∙◌, subst, append_assoc, length-append, arith, inl, inr}
 use Rattle.std.specs.Option.{IfSome}
 use Rattle.std.specs.List.{concat}
 use Rattle.std.specs.Io.KnownBytes.{Appends}
@@ -7,14 +7,17 @@ use Rattle.std.proofs.lemmas.List.{append-nil, append_cancel_left}
 use Rattle.std.proofs.lemmas.Bool.{cases_lt}
 use Rattle.vx_syntax.specs.declared.decl.Decl.{Decl}
 use Rattle.vx_program.specs.declared.edit.Edit.{Edit}
+use Rattle.std.specs.Result.{is_ok}
+use Rattle.std.specs.Bool.{if◌then◌else◌}
 use Rattle.vx_reader.specs.declared.command.Command.{Command}
+use Rattle.vx_reader.specs.declared.command.Command.TheVariants as c
 use Rattle.vx_reader.specs.declared.command.ReadFault.{ReadFault}
 use Rattle.vx_reader.specs.Reads.{Reads, answer}
 use Rattle.vx_blocks.specs.Blocks.{blocks}
 use Rattle.vx_io.specs.Sink.{AppendsPart}
 use Rattle.vx_blocks.specs.declared.block.TheConstants.{BLOCK_BYTES}
 use Rattle.vx_batch.specs.Text.{too_long_text}
-use Rattle.vx_batch.specs.Script.{after, accepted_with, reply, Answers, too_long, read, AreReplies}
+use Rattle.vx_batch.specs.Script.{after, accepted_with, edit_reply, reply, Answers, too_long, read, AreReplies, RefusedEditsChangeNothing}
 use Rattle.vx_batch.specs.Ends.{HasReplies, HasFront, given}
 use Rattle.vx_batch.specs.declared.pieces.TheConstants.{INPUT_BYTES}
 use Rattle.vx_batch.specs.Steps.{HasReplied, HasCut, HasFinished, HasFinishedInPart, HasAnsweredBlock, HasCutBlock}
@@ -251,6 +254,28 @@ module _ (one : (bytes : List ℕ) (a b : Result Command ReadFault) → length b
       let same = same_answer edits next next' b text text' answers answers' in
       let tails : rest ≡ rest' = one_script next last last' bs rest rest' more (subst (λ n. AreReplies n bs rest' last') (sym same.1) more') in
       is ∙ (ap (λ t. t ∷ rest) same.0 ∙ (ap (λ r. text' ∷ r) tails ∙ sym is'))
+
+  -- the replies to more blocks are those to the first of them, and then the others
+  replies_split : (edits mid last : List Edit) (earlier later front texts : List (List ℕ)) → AreReplies edits earlier front mid →
+      AreReplies edits (earlier ++ later) texts last → (rest : List (List ℕ)) × (texts ≡ front ++ rest) × AreReplies mid later rest last
+  replies_split edits mid last [] later front texts (none, same) h = (texts, sym (ap (λ z. z ++ texts) none), subst (λ e. AreReplies e later texts last) (sym same) h)
+  replies_split edits mid last (b ∷ bs) later front texts (text, next, answers, (rest, is, more)) (text', next', answers', (rest', is', more')) =
+      let same = same_answer edits next next' b text text' answers answers' in
+      let tail = replies_split next mid last bs later rest rest' more (subst (λ n. AreReplies n (bs ++ later) rest' last) (sym same.1) more') in
+      (tail.0, is' ∙ (ap (λ t. t ∷ rest') (sym same.0) ∙ (ap (λ r. text ∷ r) tail.1 ∙ ap (λ z. z ++ tail.0) (sym is))), tail.2)
+
+  pub refused_changes_nothing : RefusedEditsChangeNothing
+  refused_changes_nothing edits mid last earlier later front texts block edit fault before short reads refused whole =
+      let split = replies_split edits mid last earlier (block ∷ later) front texts before whole in
+      let (text, next, answers, (rest, is, more)) = split.2 in
+      let same = same_answer mid next (accepted_with mid (Ok (c.Edit edit))) block text (reply (after mid) (length mid) (Ok (c.Edit edit))) answers
+      (read (Ok (c.Edit edit)) short reads) in
+      let said : text ≡ edit_reply (length mid) (Err fault) = same.0 ∙ ap (edit_reply (length mid)) refused in
+      let kept : next ≡ mid = same.1 ∙ ap (λ r. if is_ok r then mid ++ edit ∷ [] else mid) refused in (
+        rest,
+        split.1 ∙ ap (λ z. front ++ z) (is ∙ ap (λ t. t ∷ rest) said),
+        replies_then edits mid last earlier later front rest before (subst (λ e. AreReplies e later rest last) kept more),
+      )
 
   -- the replies can't be whole where some are wanting
   pub wanting_none : (input before wanting : List ℕ) (now : Option (List ℕ)) → HasReplies input before now → HasFront input before now wanting → 0 < length wanting → ⊥

@@ -76,3 +76,12 @@ abbrev pub AreReplies : List Edit → List (List ℕ) → List (List ℕ) → Li
 AreReplies edits [] texts last = (texts ≡ []) × (last ≡ edits)
 AreReplies edits (block ∷ blocks) texts last =
     (text : List ℕ) × (next : List Edit) × Answers edits block text next × ((rest : List (List ℕ)) × (texts ≡ text ∷ rest) × AreReplies next blocks rest last)
+
+-- An edit that is refused, in the program after the edits accepted so far, changes nothing: the reply to its block names the fault, and the replies
+-- to all other blocks are those of the script without it.
+abbrev pub RefusedEditsChangeNothing : Type 0
+RefusedEditsChangeNothing =
+    (edits mid last : List Edit) (earlier later front texts : List (List ℕ)) (block : List ℕ) (edit : Edit) (fault : EditFault) →
+    AreReplies edits earlier front mid → length block ≤ BLOCK_BYTES → Reads block (Ok (c.Edit edit)) → apply (after mid) edit.changes ≡ Err fault →
+    AreReplies edits (earlier ++ block ∷ later) texts last →
+    (rest : List (List ℕ)) × (texts ≡ front ++ edit_reply (length mid) (Err fault) ∷ rest) × AreReplies edits (earlier ++ later) (front ++ rest) last

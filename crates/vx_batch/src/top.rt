@@ -2,6 +2,7 @@ ghost use Rattle.std.specs.Prelude.{◌≡◌, ◌≢◌, ◌≤◌, ◌<◌, �
 ghost use Rattle.std.specs.Io.KnownBytes.{Appends};
 ghost use Rattle.vx_io.specs.Faults.{HasRisen};
 ghost use Rattle.vx_io.specs.Sink.{AppendsPart};
+ghost use Rattle.vx_batch.specs.Script.{RefusedEditsChangeNothing};
 ghost use Rattle.vx_batch.specs.Ends.{HasReplies, HasFront, HasAnsweredTaken, HasAnsweredFed, given, usage_line};
 
 use crate::pieces::{End, INPUT_BYTES, answer_source};
@@ -80,8 +81,12 @@ pub fn batch_top<S: Source, K: Sink>(
         → (HasRisen (S.faults source.old) (S.faults source.new) → ⊥)
         → (HasRisen (K.faults sink.old) (K.faults sink.new) → ⊥)
         → IfSome (S.left source.old) (λ all. given all (S.left source.new) ≤ INPUT_BYTES → (result ≡ 0) ⊎ (result ≡ 4)) }
+
+    // A refused edit names its fault, and all other replies are those of the script without its block.
+    ensures refused { RefusedEditsChangeNothing }
 {
     one_reading();
+    refused_edits_change_nothing();
     if !words.is_empty() {
         return match write_all(sink, USAGE) {
             Ok(()) => Status::Usage as u8,
@@ -95,4 +100,11 @@ pub fn batch_top<S: Source, K: Sink>(
         End::Stopped(Stop::WriteFailed) => Status::WriteFailed as u8,
         End::Stopped(Stop::OutOfMemory) => Status::OutOfMemory as u8,
     }
+}
+
+// What `batch_top` says of refused edits, by itself.
+fn refused_edits_change_nothing()
+    ensures { RefusedEditsChangeNothing }
+{
+    one_reading();
 }

@@ -5,6 +5,8 @@ ghost use Rattle.vx_syntax.specs.Counts.{height};
 ghost use Rattle.vx_syntax.specs.Print.{decl_text};
 ghost use Rattle.vx_syntax.specs.Written.{IsDeclWritten};
 ghost use Rattle.vx_program.specs.declared.edit.Change.TheVariants.{Add};
+ghost use Rattle.vx_program.specs.Prelude.{prelude};
+ghost use Rattle.vx_program.specs.Program.{IsIn, IsProgram};
 ghost use Rattle.vx_program.specs.declared.edit.Edit as program;
 ghost use Rattle.vx_program.specs.Apply.{IsWritable};
 ghost use Rattle.vx_reader.specs.declared.command.Command.{Command};
@@ -71,4 +73,13 @@ pub fn canonical_additions_are_read()
 {
     written_declarations_are_read();
     canonical_tokens_are_shallow();
+}
+
+/// The canonical text of each declaration of a program that is none of the prelude's, behind `add` and a blank, is a
+/// block that adds that declaration.
+pub fn programs_are_read_back()
+    ensures { (program : List Decl) (own : Decl) → IsProgram program → IsIn own program → (IsIn own prelude → ⊥) →
+        Reads (codes "add " ++ decl_text own) (Ok (Edit (record { changes = Add own ∷ [] }))) }
+{
+    canonical_additions_are_read();
 }

@@ -18,7 +18,8 @@ mod tokenizer;
 
 pub use command::{Command, ReadFault};
 pub use laws::{
-    canonical_additions_are_read, every_block_is_read, one_reading, read_edits_are_writable,
+    canonical_additions_are_read, every_block_is_read, one_reading, programs_are_read_back,
+    read_edits_are_writable,
 };
 pub use reader::read_block;
 pub use token::Placed;
