@@ -243,7 +243,7 @@ fn names_end_at_their_bytes(rt: HostRuntime) -> Result<(), Fail> {
     for (begin, len, end, reply) in [
         ("add object ", 64, "", "accepted 1\n"),
         ("add object ", 65, "", "refused syntax at 11\n"),
-        ("add field ", 60, "(@a)", "refused not yet built\n"),
+        ("add field ", 60, "(@a)", "refused unknown a\n"),
         ("add field ", 61, "(@a)", "refused syntax at 10\n"),
     ] {
         let mut block = begin.as_bytes().to_vec(alloc)?;

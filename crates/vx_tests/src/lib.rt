@@ -4,6 +4,10 @@
 #[cfg(test)]
 mod broken;
 #[cfg(test)]
+mod edits;
+#[cfg(test)]
+mod limits;
+#[cfg(test)]
 mod round;
 #[cfg(test)]
 mod scripts;
