@@ -1,5 +1,5 @@
 -- Declarations in key order, sought by the name of an object or predicate.
-use Rattle.std.proofs.Common.{◌≡◌, ℕ, zero, suc, ◌+◌, ◌<◌, ◌≤◌, Bool, true, false, List, [], ◌∷◌, Some, Less, Equal, Greater, Ordering, length, get_or, refl, sym, ap, ◌∙◌, subst, inl, inr, arith}
+use Rattle.std.proofs.Common.{◌≡◌, ℕ, zero, suc, ◌+◌, ◌<◌, ◌≤◌, Bool, true, false, List, [], ◌∷◌, Option, Some, None, IfSome, IsNone, Less, Equal, Greater, Ordering, length, get_or, refl, sym, ap, ◌∙◌, subst, inl, inr, arith}
 use Rattle.std.specs.List.{slice_get}
 use Rattle.std.specs.Ordering.{is_eq, is_lt, nat_cmp, ordering_then}
 use Rattle.std.specs.Cmp.Lexicographic.{slice_cmp}
@@ -14,9 +14,10 @@ use Rattle.vx_syntax.specs.declared.decl.Decl.{Decl}
 use Rattle.vx_syntax.specs.declared.decl.Decl.TheVariants as d
 use Rattle.vx_syntax.specs.Expressions.{Bytes}
 use Rattle.vx_syntax.specs.Keys.{key_of}
-use Rattle.vx_program.specs.Program.{IsIn, is_named, is_there, is_before, IsOrdered}
-use Rattle.vx_program.proofs.Members.{in_any, less, not_before_itself, tail_ordered, goes_first}
+use Rattle.vx_program.specs.Program.{IsIn, IsProgram, is_named, is_there, is_before, IsOrdered}
+use Rattle.vx_program.proofs.Members.{any_in, in_any, less, not_before_itself, tail_ordered, goes_first}
 use Rattle.vx_program.proofs.Chains.{same_bytes}
+use Rattle.vx_program.proofs.ByKey.{occupies_name}
 
 -- whether a declaration goes before an object of the name
 abbrev goes_before : Decl → Bytes → Bool
@@ -28,7 +29,7 @@ in_at [] place x e = absurd (cc)
 in_at (y ∷ xs) zero x e = inl (cc)
 in_at (y ∷ xs) (suc place) x e = inr (in_at xs place x e)
 
-at_in : {X : Type 0} (xs : List X) (x : X) → IsIn x xs → (place : ℕ) × (slice_get xs place ≡ Some x)
+pub at_in : {X : Type 0} (xs : List X) (x : X) → IsIn x xs → (place : ℕ) × (slice_get xs place ≡ Some x)
 at_in [] x i = absurd i
 at_in (y ∷ xs) x (inl e) = (zero, ap Some e)
 at_in (y ∷ xs) x (inr i) = let r = at_in xs x i in (suc r.0, r.1)
@@ -120,3 +121,25 @@ none_named ds o x first front behind unnamed = false_from_ne_true (is_there ds x
           let a = get_or ds first r.0 in
           false≢true (sym (unnamed a e) ∙ between a r.0 x (behind first a (omega arith) e) r.2 (rises ds o first p.0 a r.0 e p.1 past))
     ])
+
+-- no declaration goes before one that is the same
+apart : (a b : Decl) → a ≡ b → is_before a b ≡ true → ⊥
+apart a b e h = false≢true (sym (not_before_itself (key_of a)) ∙ subst (λ z. is_before a z ≡ true) (sym e) h)
+
+-- declarations of one name are one, and stand at one place
+pub one_place : (ds : List Decl) → IsProgram ds → (x : Bytes) (i j : ℕ) (a b : Decl) → slice_get ds i ≡ Some a → slice_get ds j ≡ Some b →
+    is_named x a ≡ true → is_named x b ≡ true → i ≡ j
+one_place ds program x i j a b e f n m =
+    let same : a ≡ b = program.apart a b (k.Object x) (in_at ds i a e) (in_at ds j b f) (occupies_name x a n) (occupies_name x b m) in
+    elim (cases_order i j) [
+      | inl one ↦ one
+      | inr (inl front) ↦ absurd (apart a b same (rises ds program.ordered i j a b e f front))
+      | inr (inr past) ↦ absurd (apart b a (sym same) (rises ds program.ordered j i b a f e past))
+    ]
+
+-- a place at which a name was found is the one of each declaration that has it
+pub only_place : (ds : List Decl) → IsProgram ds → (x : Bytes) (found : Option ℕ) →
+    IfSome found (λ at. (decl : Decl) × (slice_get ds at ≡ Some decl) × (is_named x decl ≡ true)) → (IsNone found → is_there ds x ≡ false) →
+    (place : ℕ) (decl : Decl) → slice_get ds place ≡ Some decl → is_named x decl ≡ true → found ≡ Some place
+only_place ds program x (Some at) some none place decl e n = ap Some (one_place ds program x at place some.0 decl some.1 e some.2 n)
+only_place ds program x None some none place decl e n = absurd (false≢true (sym (none refl) ∙ any_in (is_named x) ds decl (in_at ds place decl e) n))

@@ -78,7 +78,7 @@ is_wrong program (d.Predicate own parents test) x = is_name_of sealed x
 is_wrong program (d.Field key start changeable) x = is_predicate_there program x || is_there prelude x
 is_wrong program (d.Method key formals body) x = false
 
--- the key by which objects and predicates of a name are told from one another is one: they share their names
+-- objects and predicates share their names: what holds a name holds the key of an object of that name
 abbrev pub shared : DeclKey → DeclKey
 shared (k.Object x) = k.Object x
 shared (k.Predicate x) = k.Object x

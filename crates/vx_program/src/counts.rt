@@ -1,7 +1,5 @@
 //! Which counts of a program would be too great. Counts are shown as 2^64 - 1 where they are greater.
 ghost use Rattle.std.specs.Prelude.{◌≡◌, ◌≤◌, ◌∷◌, [], ℕ, if◌then◌else◌, count_by, IfOk};
-ghost use Rattle.std.specs.Ordering.{is_eq};
-ghost use Rattle.vx_names.specs.Key.{selector_cmp};
 ghost use Rattle.vx_names.specs.declared.key.DeclKey.TheVariants as k;
 ghost use Rattle.vx_syntax.specs.Counts.{capped};
 ghost use Rattle.vx_program.specs.Program.{getter, setter, is_method_of, methods_made, methods_of, declared};
@@ -9,7 +7,7 @@ ghost use Rattle.vx_program.specs.Apply.{over, methods_fault, limit_fault};
 
 use crate::edit::{Counted, EditFault};
 use crate::limits::{MAX_DECLARATIONS, MAX_DEPTH, MAX_LOCALS, MAX_METHODS};
-use crate::occupied::{is_setter_name, occupied};
+use crate::occupied::{is_getter_of, is_setter_of, occupied};
 use crate::reserved::{PRELUDE_DECLARATIONS, Reserved};
 use std::alloc::{AllocError, Global};
 use std::cmp::Ordering;
@@ -120,17 +118,9 @@ fn one_if(counts: bool) -> u64
 fn made_by_field(own: &FieldKey, changeable: bool, selector: &Selector) -> u64
     ensures { result ≡ count_by (is_method_of selector.now) (k.Field own.now ∷ k.Method (getter own.now) ∷ (if changeable then k.Method (setter own.now) ∷ [] else [])) }
 {
-    let reads = one_if(
-        own.name.cmp(&selector.name).then(1u8.cmp(&selector.arity)) == Ordering::Equal,
-    );
+    let reads = one_if(is_getter_of(own, selector));
     if changeable {
         return reads + one_if(is_setter_of(own, selector));
     }
     reads
-}
-
-fn is_setter_of(own: &FieldKey, selector: &Selector) -> bool
-    ensures { result ≡ is_eq (selector_cmp (setter own.now).selector selector.now) }
-{
-    is_setter_name(own.name.bytes(), selector.name.bytes()) & (selector.arity == 2)
 }

@@ -8,6 +8,7 @@ mod faults;
 mod key;
 mod limits;
 mod lookup;
+mod methods;
 mod occupied;
 mod prelude;
 mod program;
@@ -20,6 +21,8 @@ mod written;
 
 pub use edit::{Change, Counted, Edit, EditFault};
 pub use limits::{MAX_DECLARATIONS, MAX_DEPTH, MAX_LOCALS, MAX_METHODS};
+pub use lookup::{is_named, parents_of};
 pub use program::Program;
 pub use reserved::Reserved;
+pub use walk::chains_are_found;
 pub use writability::{writable, writable_edits_are_read};

@@ -27,12 +27,12 @@ pub fn find<'a>(decls: &'a [Decl], key: &DeclKey) -> Option<&'a Decl>
 }
 
 /// Whether the declaration is an object or a predicate of the name.
-pub fn is_named(decl: &Decl, x: &Name) -> bool
+pub fn is_named(decl: &Decl, x: &[u8]) -> bool
     ensures { result ≡ is_named x.now decl.now }
 {
     match decl {
-        Decl::Object { name, .. } => name.bytes() == x.bytes(),
-        Decl::Predicate { name, .. } => name.bytes() == x.bytes(),
+        Decl::Object { name, .. } => name.bytes() == x,
+        Decl::Predicate { name, .. } => name.bytes() == x,
         _ => false,
     }
 }
@@ -42,7 +42,7 @@ pub fn is_there(decls: &[Decl], x: &Name) -> bool
     ensures { result ≡ is_there decls.now x.now }
 {
     for decl in decls {
-        if is_named(decl, x) {
+        if is_named(decl, x.bytes()) {
             return true;
         }
     }
@@ -54,7 +54,7 @@ pub fn is_predicate_there(decls: &[Decl], x: &Name) -> bool
     ensures { result ≡ is_predicate_there decls.now x.now }
 {
     for decl in decls {
-        if is_predicate(decl) && is_named(decl, x) {
+        if is_predicate(decl) && is_named(decl, x.bytes()) {
             return true;
         }
     }
@@ -137,12 +137,12 @@ pub fn position(decls: &[Decl], key: &DeclKey) -> Option<usize>
 pub fn is_sealed(x: &Name) -> bool
     ensures { result ≡ is_name_of sealed x.now }
 {
-    let plain = is_word(x, b"int") | (is_word(x, b"string") | is_word(x, b"closure"));
-    let value = is_word(x, b"true") | (is_word(x, b"false") | is_word(x, b"nil"));
+    let plain = is_spelled(x, b"int") | (is_spelled(x, b"string") | is_spelled(x, b"closure"));
+    let value = is_spelled(x, b"true") | (is_spelled(x, b"false") | is_spelled(x, b"nil"));
     plain | value
 }
 
-fn is_word(x: &Name, bytes: &[u8]) -> bool
+fn is_spelled(x: &Name, bytes: &[u8]) -> bool
     ensures { result ≡ bytes_eq bytes.now x.now }
 {
     bytes == x.bytes()

@@ -1,6 +1,8 @@
 //! The keys that declarations occupy.
 ghost use Rattle.std.specs.Prelude.{◌≡◌, ◌++◌, ◌∷◌, [], if◌then◌else◌, codes, IfOk};
+ghost use Rattle.std.specs.Ordering.{is_eq};
 ghost use Rattle.std.specs.Str.{bytes_eq};
+ghost use Rattle.vx_names.specs.Key.{selector_cmp};
 ghost use Rattle.vx_names.specs.declared.key.DeclKey.TheVariants as k;
 ghost use Rattle.vx_syntax.specs.declared.decl.Decl.TheVariants as d;
 ghost use Rattle.vx_program.specs.Prelude.{same_key};
@@ -55,7 +57,8 @@ fn of_field(alloc: Global, key: &FieldKey, changeable: bool) -> Result<Items<Dec
     Ok(keys)
 }
 
-fn getter(alloc: Global, key: &FieldKey) -> Result<MethodKey, AllocError>
+/// The method that reads the field.
+pub fn getter(alloc: Global, key: &FieldKey) -> Result<MethodKey, AllocError>
     ensures { IfOk result (λ method. method ≡ getter key.now) }
 {
     let mut specialisers = Items::new(alloc);
@@ -67,7 +70,8 @@ fn getter(alloc: Global, key: &FieldKey) -> Result<MethodKey, AllocError>
     })
 }
 
-fn setter(alloc: Global, key: &FieldKey) -> Result<MethodKey, AllocError>
+/// The method that sets the field.
+pub fn setter(alloc: Global, key: &FieldKey) -> Result<MethodKey, AllocError>
     ensures { IfOk result (λ method. method ≡ setter key.now) }
 {
     let mut specialisers = Items::new(alloc);
@@ -136,8 +140,22 @@ fn is_setter(own: &FieldKey, key: &MethodKey) -> bool
     (key.selector.arity == 2) & (name_is & specialisers_are)
 }
 
-/// Whether the name is that of the method that sets a field of this name.
-pub fn is_setter_name(own: &[u8], name: &[u8]) -> bool
+/// Whether the method that reads the field has the selector.
+pub fn is_getter_of(own: &FieldKey, selector: &Selector) -> bool
+    ensures { result ≡ is_eq (selector_cmp (getter own.now).selector selector.now) }
+{
+    own.name.cmp(&selector.name).then(1u8.cmp(&selector.arity)) == Ordering::Equal
+}
+
+/// Whether the method that sets the field has the selector.
+pub fn is_setter_of(own: &FieldKey, selector: &Selector) -> bool
+    ensures { result ≡ is_eq (selector_cmp (setter own.now).selector selector.now) }
+{
+    is_setter_name(own.name.bytes(), selector.name.bytes()) & (selector.arity == 2)
+}
+
+// Whether the name is that of the method that sets a field of this name.
+fn is_setter_name(own: &[u8], name: &[u8]) -> bool
     ensures { result ≡ bytes_eq (codes "set_" ++ own.now) name.now }
 {
     name.len() == 4 + own.len() && &name[..4] == b"set_".as_slice() && &name[4..] == own

@@ -1,17 +1,25 @@
-ghost use Rattle.std.specs.Prelude.{◌≡◌, Ok, IfOk, IfErr};
+ghost use Rattle.std.specs.Prelude.{◌≡◌, ◌<◌, ℕ, Ok, Some, true, length, slice_get, IfOk, IfErr, IfSome};
 ghost use Rattle.std.specs.Option.{option_copied};
-ghost use Rattle.vx_program.specs.Prelude.{prelude};
-ghost use Rattle.vx_program.specs.Program.{find, IsProgram};
+ghost use Rattle.std.specs.List as list;
+ghost use Rattle.std.specs.List.{position_from};
+ghost use Rattle.vx_program.specs.Prelude.{prelude, primitive_keys, same_key};
+ghost use Rattle.vx_syntax.specs.declared.decl.Decl.{Decl};
+ghost use Rattle.vx_program.specs.Program.{find, is_named, occupies, IsProgram};
+ghost use Rattle.vx_program.specs.Methods.{methods};
 ghost use Rattle.vx_program.specs.Apply.{apply, IsFaultOf, IsWritable};
 
 use crate::changes::changed;
 use crate::edit::{Edit, EditFault};
 use crate::lookup;
+use crate::methods::methods;
+use crate::occupied::occupies;
 use crate::prelude::prelude;
 use crate::reserved::Reserved;
+use crate::walk::position;
+use sqlite_items::Items;
 use std::alloc::{AllocError, Global};
 use std::marker::Model;
-use vx_names::DeclKey;
+use vx_names::{DeclKey, MethodKey, Selector};
 use vx_syntax::Decl;
 
 /// A well-formed program, which contracts see as its declarations in key order, the prelude among them.
@@ -19,6 +27,7 @@ use vx_syntax::Decl;
 pub struct Program {
     alloc: Global,
     decls: Vec<Decl>,
+    reserved: Reserved,
 }
 
 impl Model for Program {
@@ -43,7 +52,12 @@ impl Program {
         ensures { IfOk result (λ program. program ≡ prelude) }
     {
         let decls = prelude(alloc)?;
-        Ok(Program { alloc, decls })
+        let reserved = Reserved::new(alloc)?;
+        Ok(Program {
+            alloc,
+            decls,
+            reserved,
+        })
     }
 
     /// The declarations in key order.
@@ -59,6 +73,42 @@ impl Program {
         ensures { option_copied result ≡ find self.now key.now }
     {
         lookup::find(self.decls.as_slice(), key)
+    }
+
+    /// Where the object or predicate whose name has these bytes stands among the declarations.
+    pub fn place(&self, x: &[u8]) -> Option<usize>
+        ensures within { IfSome result (λ place. place < length self.now) }
+        ensures some { IfSome result (λ place. (decl : Decl) × (slice_get self.now place ≡ Some decl) × (is_named x.now decl ≡ true)) }
+        ensures only { (place : ℕ) (decl : Decl) → slice_get self.now place ≡ Some decl → is_named x.now decl ≡ true → result ≡ Some place }
+    {
+        position(self.decls.as_slice(), x)
+    }
+
+    /// The methods of the selector: those that are declared and those that read and set fields, as the declarations come,
+    /// and the primitives behind them.
+    pub fn methods(&self, selector: &Selector) -> Result<Items<MethodKey>, AllocError>
+        ensures { IfOk result (λ keys. keys ≡ methods self.now selector.now) }
+    {
+        methods(self.alloc, &self.reserved, self.decls.as_slice(), selector)
+    }
+
+    /// The declaration that occupies the key: that of the key itself, or that of the field which a method reads or sets.
+    pub fn maker(&self, key: &DeclKey) -> Option<&Decl>
+        ensures { option_copied result ≡ list.find (λ decl. occupies decl key.now) self.now }
+    {
+        for decl in self.decls.as_slice() {
+            if occupies(decl, key) {
+                return Some(decl);
+            }
+        }
+        None
+    }
+
+    /// The number of the primitive that has the key, counted from 0.
+    pub fn primitive(&self, key: &DeclKey) -> Option<usize>
+        ensures { result ≡ position_from (λ one. same_key one key.now) 0 primitive_keys }
+    {
+        self.reserved.primitive(key)
     }
 
     /// The program after the edit, whose changes it takes in order, all or none.
@@ -78,6 +128,7 @@ impl Program {
         Ok(Program {
             alloc: self.alloc,
             decls,
+            reserved,
         })
     }
 
@@ -86,9 +137,11 @@ impl Program {
         ensures { IfOk result (λ copy. copy ≡ self.now) }
     {
         let decls = copy_decls(self.alloc, self.decls.as_slice())?;
+        let reserved = Reserved::new(self.alloc)?;
         Ok(Program {
             alloc: self.alloc,
             decls,
+            reserved,
         })
     }
 }

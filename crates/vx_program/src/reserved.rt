@@ -1,19 +1,21 @@
 //! The keys that no change may name.
 ghost use Rattle.std.specs.Prelude.{◌≡◌, ◌≤◌, ◌++◌, ◌∷◌, [], length, map, count_by, codes, IfOk, OnOk};
 ghost use Rattle.vx_names.specs.declared.key.DeclKey.TheVariants as k;
-ghost use Rattle.std.specs.List.{list_any};
+ghost use Rattle.std.specs.List.{list_any, position_from};
 ghost use Rattle.vx_syntax.specs.Declarations.{method_key};
 ghost use Rattle.vx_program.specs.Program.{is_there, is_method_of};
 ghost use Rattle.vx_program.specs.Lookups.{names};
+ghost use Rattle.vx_program.specs.Methods.{with_selector};
 ghost use Rattle.vx_syntax.specs.Counts.{capped};
-ghost use Rattle.vx_program.specs.Prelude.{is_one, is_primitive, is_reserved, of_integers, of_strings, of_one, evaluation, arithmetic, division, comparing, joining, printing, evaluating, evaluating_more, looping, prelude, prelude_keys, primitive_keys};
+ghost use Rattle.vx_program.specs.Prelude.{same_key, is_one, is_primitive, is_reserved, of_integers, of_strings, of_one, evaluation, arithmetic, division, comparing, joining, printing, evaluating, evaluating_more, looping, prelude, prelude_keys, primitive_keys};
 
+use crate::methods::push_if;
 use crate::prelude::{method_key, one, pair, prelude};
 use sqlite_items::Items;
 use std::alloc::{AllocError, Global};
 use std::cmp::Ordering;
 use std::marker::Model;
-use vx_names::{DeclKey, Name, Selector, name_of};
+use vx_names::{DeclKey, MethodKey, Name, Selector, name_of};
 
 /// How many declarations the prelude has.
 pub const PRELUDE_DECLARATIONS: u64 = 21;
@@ -77,6 +79,33 @@ impl Reserved {
         count
     }
 
+    /// Puts the primitives of the selector on the list.
+    pub fn push_methods(
+        &self,
+        alloc: Global,
+        keys: &mut Items<MethodKey>,
+        selector: &Selector,
+    ) -> Result<(), AllocError>
+        ensures { OnOk result (keys.new ≡ keys.old ++ with_selector selector.now primitive_keys) }
+    {
+        for key in self.primitives.as_slice() {
+            push_method(alloc, keys, key, selector)?;
+        }
+        Ok(())
+    }
+
+    /// The number of the primitive that has the key.
+    pub fn primitive(&self, key: &DeclKey) -> Option<usize>
+        ensures { result ≡ position_from (λ one. same_key one key.now) 0 primitive_keys }
+    {
+        for (number, one) in self.primitives.as_slice().iter().enumerate() {
+            if one == key {
+                return Some(number);
+            }
+        }
+        None
+    }
+
     /// Whether the key is that of a primitive.
     pub fn is_primitive(&self, key: &DeclKey) -> bool
         ensures { result ≡ is_primitive key.now }
@@ -102,6 +131,21 @@ fn is_method_of(key: &DeclKey, selector: &Selector) -> bool
     match key {
         DeclKey::Method(key) => key.selector.cmp(selector) == Ordering::Equal,
         _ => false,
+    }
+}
+
+// Puts the key on the list where it is that of a method of the selector.
+fn push_method(
+    alloc: Global,
+    keys: &mut Items<MethodKey>,
+    key: &DeclKey,
+    selector: &Selector,
+) -> Result<(), AllocError>
+    ensures { OnOk result (keys.new ≡ keys.old ++ with_selector selector.now (key.now ∷ [])) }
+{
+    match key {
+        DeclKey::Method(key) => push_if(alloc, keys, key, selector),
+        _ => Ok(()),
     }
 }
 

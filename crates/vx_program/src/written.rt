@@ -9,14 +9,11 @@ ghost use Rattle.vx_syntax.specs.Written.{AreNew, AreStated, IsStmtWritten, IsWr
 use crate::scope::Scope;
 use crate::words::{is_literal, is_selector, is_text, is_word};
 use std::alloc::AllocError;
-use vx_names::{Name, Selector};
+use vx_names::{FIELD_NAME_BYTES, Name, Selector};
 use vx_syntax::{Body, Expr, Stmt};
 
 /// The most formals that a closure has.
 const MAX_CLOSURE_FORMALS: usize = 4;
-
-/// The most bytes that the name of a field has.
-const MAX_FIELD_BYTES: usize = 60;
 
 /// Whether the statements are a body of some text where these names are in scope. If so, the same names are in scope after it.
 #[cycle(written)]
@@ -186,7 +183,7 @@ fn is_back(stmt: &Stmt) -> bool
 pub fn is_field_name(name: &Name) -> bool
     ensures { Decides result (IsWord name.now × (length name.now ≤ max_field_bytes)) }
 {
-    is_word(name) && name.bytes().len() <= MAX_FIELD_BYTES
+    is_word(name) && name.bytes().len() <= FIELD_NAME_BYTES
 }
 
 // Whether one of the fields has the name.

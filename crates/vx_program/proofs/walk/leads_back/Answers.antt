@@ -5,7 +5,7 @@ use Rattle.std.proofs.lemmas.List.{nil_from_length, map-append, length-map, leng
 use Rattle.std.proofs.lemmas.Option.{get_or_from_slice_get}
 use Rattle.vx_syntax.specs.declared.decl.Decl.{Decl}
 use Rattle.vx_syntax.specs.Expressions.{Bytes}
-use Rattle.vx_program.specs.Program.{parents_of}
+use Rattle.vx_program.specs.Program.{parents_of, is_named, is_there}
 use Rattle.vx_program.proofs.Walks.{Walked, begins, passes_unknown, passes_seen, comes, fewer_come, found, ended}
 use Rattle.vx_program.proofs.walk.leads_back.Goals as goal
 
@@ -66,7 +66,7 @@ loop-name-preserved-in-Continue-branch-3 c =
     c.in_ok-append-2.ensures ∙ ap (λ ps. names c.pop.new.self.items ++ ps) (c.parents_of.ensures ∙ ap parents_of own) in
     subst (λ ns. Walked c.args.decls.now c.args.parents.now c.args.x.now ns (set c.loop-name.seen.items c.in-Some-position.place true)) (sym more)
     (comes c.args.decls.now c.args.parents.now c.args.x.now (names c.pop.new.self.items) c.in-Some.name.now c.loop-name.seen.items c.in-Some-position.place p.0
-    (subst (λ ns. Walked c.args.decls.now c.args.parents.now c.args.x.now ns c.loop-name.seen.items) shape c.loop-name.invariant) other p.1 p.2 within)
+    (subst (λ ns. Walked c.args.decls.now c.args.parents.now c.args.x.now ns c.loop-name.seen.items) shape c.loop-name.invariant) other p.1 (subst (λ z. is_named z p.0 ≡ true) c.bytes-in-Some-2.ensures.bytes p.2) within)
 
 pub loop-name-preserved-else-not-index : goal.loop-name-preserved-else-not-index
 loop-name-preserved-else-not-index c =
@@ -76,14 +76,14 @@ loop-name-preserved-else-not-index c =
     let within : c.in-Some-position.place < length c.loop-name.seen.items = omega (arith, c.in-Some-position.ensures.within, c.loop-name.invariant.same) in
     let seen = sym (get_or_read_under c.loop-name.seen.items c.in-Some-position.place (length c.loop-name.seen.items) c.index.result.now false c.index.ensures within refl) ∙ c.if-not-index.false in
     passes_seen c.args.decls.now c.args.parents.now c.args.x.now (names c.pop.new.self.items) c.in-Some.name.now c.loop-name.seen.items c.in-Some-position.place p.0
-    (subst (λ ns. Walked c.args.decls.now c.args.parents.now c.args.x.now ns c.loop-name.seen.items) shape c.loop-name.invariant) other p.1 p.2 seen
+    (subst (λ ns. Walked c.args.decls.now c.args.parents.now c.args.x.now ns c.loop-name.seen.items) shape c.loop-name.invariant) other p.1 (subst (λ z. is_named z p.0 ≡ true) c.bytes-in-Some-2.ensures.bytes p.2) seen
 
 pub loop-name-preserved : goal.loop-name-preserved
 loop-name-preserved c =
     let shape = taken c.loop-name.left.items c.pop.new.self.items c.in-Some.name c.in-Some.ensures.items in
     let other : bytes_eq c.in-Some.name.now c.args.x.now ≡ false = cc (c.eq.ensures, c.bytes.ensures.bytes, c.bytes-in-Some.ensures.bytes, c.if-eq.false) in
     passes_unknown c.args.decls.now c.args.parents.now c.args.x.now (names c.pop.new.self.items) c.in-Some.name.now c.loop-name.seen.items
-    (subst (λ ns. Walked c.args.decls.now c.args.parents.now c.args.x.now ns c.loop-name.seen.items) shape c.loop-name.invariant) other (c.in_default-position.ensures.none refl)
+    (subst (λ ns. Walked c.args.decls.now c.args.parents.now c.args.x.now ns c.loop-name.seen.items) shape c.loop-name.invariant) other (subst (λ z. is_there c.args.decls.now z ≡ false) c.bytes-in-Some-2.ensures.bytes (c.in_default-position.ensures.none refl))
 
 pub returns : goal.returns
 returns c =

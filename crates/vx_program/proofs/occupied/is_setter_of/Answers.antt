@@ -1,7 +1,7 @@
 use Rattle.std.proofs.Common.{◌≡◌, ◌∙◌, ◌&&◌, ◌++◌, codes, nat_eq, ap, rules}
 use Rattle.std.specs.Str.{bytes_eq}
 use Rattle.vx_program.proofs.Lookups.{setter_selector}
-use Rattle.vx_program.proofs.counts.is_setter_of.Goals as goal
+use Rattle.vx_program.proofs.occupied.is_setter_of.Goals as goal
 
 pub returns : goal.returns
 returns c =
