@@ -1,0 +1,9 @@
+pub mod Order
+pub mod Walks
+pub mod Fields
+pub mod Holds
+pub mod Lookup
+pub mod Values
+pub mod Primitives
+pub mod Meaning
+pub mod Reports
