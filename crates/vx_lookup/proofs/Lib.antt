@@ -1,0 +1,3 @@
+pub mod Tests
+pub mod Pairs
+pub mod Held

@@ -1,0 +1,4 @@
+pub mod Uppers
+pub mod Firsts
+pub mod Below
+pub mod Plains
