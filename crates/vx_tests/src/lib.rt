@@ -1,4 +1,4 @@
-//! Tests that go through the whole compiler: scripts in, replies out.
+//! Tests from outside: scripts in and replies out, and what programs mean.
 #![tactic(auto)]
 
 #[cfg(test)]
@@ -6,8 +6,16 @@ mod broken;
 #[cfg(test)]
 mod edits;
 #[cfg(test)]
+mod ladders;
+#[cfg(test)]
 mod limits;
+#[cfg(test)]
+mod lookups;
+#[cfg(test)]
+mod objects;
 #[cfg(test)]
 mod round;
 #[cfg(test)]
 mod scripts;
+#[cfg(test)]
+mod words;
