@@ -1,0 +1,7 @@
+pub mod Bindings
+pub mod Calls
+pub mod PlainRows
+pub mod Rows
+pub mod Sizes
+pub mod Slots
+pub mod Spellings

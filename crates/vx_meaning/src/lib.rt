@@ -1,0 +1,16 @@
+//! What programs mean, computed: the evaluation of their text, with an allowance of calls.
+#![tactic(auto)]
+
+mod evaluate;
+mod fields;
+mod memory;
+mod objects;
+mod plain;
+mod primitives;
+mod runs;
+mod scope;
+#[cfg(test)]
+mod tests;
+
+pub use plain::is_plain;
+pub use runs::mean;

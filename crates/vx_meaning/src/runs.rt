@@ -1,0 +1,47 @@
+//! The meaning of a program.
+ghost use Rattle.std.specs.Prelude.{◌≡◌, true, IfOk};
+ghost use Rattle.vx_model.specs.Meaning.{meaning, report};
+ghost use Rattle.vx_meaning.specs.Plain.{is_plain};
+ghost use Rattle.vx_meaning.specs.States.{done};
+
+use crate::evaluate::answer;
+use crate::memory::{Memory, Outcome};
+use crate::objects::opening;
+use sqlite_items::Items;
+use std::alloc::{AllocError, Global};
+use vx_model::{Report, RunError};
+use vx_names::{Selector, name_of};
+use vx_program::Program;
+
+/// How the run of the program ends with an allowance of so many calls, and the lines that it prints: the meaning of the
+/// program, for one in which no method has a closure or a resend.
+pub fn mean(alloc: Global, program: &Program, f: u8) -> Result<Report, AllocError>
+    requires { is_plain program.now ≡ true }
+    ensures { IfOk result (λ report. report ≡ meaning program.now f) }
+{
+    let mut memory = Memory {
+        heap: opening(alloc, program)?,
+        next: 0,
+        lines: Items::new(alloc),
+    };
+    let selector = Selector {
+        name: name_of(alloc, b"main")?,
+        arity: 0,
+    };
+    let outcome = answer(alloc, program, &selector, &[], f, &mut memory)?;
+    Ok(reported(outcome, memory))
+}
+
+// The report of a run that ended so. A return that passes the outermost call has no home any more.
+fn reported(outcome: Outcome, memory: Memory) -> Report
+    ensures { result ≡ report (done outcome memory) }
+{
+    let Memory { lines, .. } = memory;
+    match outcome {
+        Outcome::Gives(_) => Report::End(lines),
+        Outcome::Back(_, _) => Report::Error(lines, RunError::DeadReturn),
+        Outcome::Fails(error) => Report::Error(lines, error),
+        Outcome::Out => Report::Unfinished(lines),
+        Outcome::Stuck => Report::Stuck(lines),
+    }
+}
