@@ -1,4 +1,4 @@
-# What both measures share: the program, a folder to work in, and the time of a script. Sourced, not run.
+# What the measures share: the program, a folder to work in, and the time of a script. Sourced, not run.
 top=$(cd "$(dirname "${BASH_SOURCE[0]}")/.." && pwd)
 "$top/run-script.sh" </dev/null
 program=$top/crates/vortex_batch/out/vortex_batch
@@ -15,4 +15,11 @@ least() {
         if [ -z "$best" ] || [ "$spent" -lt "$best" ]; then best=$spent; fi
     done
     echo "$best"
+}
+
+# The text that adds one method, with statements of about so many bytes.
+long_method() {
+    echo 'add method main() {'
+    yes 'f(a, "text", 1 + 2 * -3, { g(b); ^ c }, object isa d { e := x < 4 });' 2>/dev/null | head -c "$1" | sed '$d'
+    echo '}'
 }

@@ -6,9 +6,7 @@ set -eu
 . "$(dirname "$0")/measure.sh"
 timed() {
     {
-        echo 'add method main() {'
-        yes 'f(a, "text", 1 + 2 * -3, { g(b); ^ c }, object isa d { e := x < 4 });' 2>/dev/null | head -c "$1" | sed '$d'
-        echo '}'
+        long_method "$1"
         for _ in {1..64}; do printf '.\nlist\n'; done
     } >"$work/script"
     least

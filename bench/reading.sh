@@ -6,9 +6,7 @@ set -eu
 . "$(dirname "$0")/measure.sh"
 timed() {
     {
-        echo 'add method main() {'
-        yes 'f(a, "text", 1 + 2 * -3, { g(b); ^ c }, object isa d { e := x < 4 });' 2>/dev/null | head -c "$1" | sed '$d'
-        echo '}'
+        long_method "$1"
         echo .
     } >"$work/block"
     for _ in {1..16}; do cat "$work/block"; done >"$work/script"
