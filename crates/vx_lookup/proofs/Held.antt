@@ -1,13 +1,12 @@
 -- What a declaration of a name says of whether a value counts as it.
-use Rattle.std.proofs.Common.{◌≡◌, ℕ, ◌+◌, ◌<◌, ◌&&◌, ◌||◌, not, Bool, true, false, List, length, drop, get_or, refl, sym, ap, ◌∙◌, subst}
-use Rattle.std.specs.List.{list_all}
-use Rattle.std.proofs.lemmas.List.{at_drop_more}
+use Rattle.std.proofs.Common.{◌≡◌, ◌||◌, not, Bool, true, false, List, refl, sym, ap, ◌∙◌, subst}
+use Rattle.vx_lists.specs.Members.{IsIn}
+use Rattle.vx_lists.proofs.Members.{any_in}
+use Rattle.vx_lists.proofs.Texts.{same_bytes}
 use Rattle.vx_syntax.specs.declared.decl.Decl.{Decl}
 use Rattle.vx_syntax.specs.declared.decl.Decl.TheVariants as d
 use Rattle.vx_syntax.specs.Expressions.{Bytes}
-use Rattle.vx_program.specs.Program.{IsIn, IsProgram, is_named, is_there, leads}
-use Rattle.vx_program.proofs.Chains.{same_bytes}
-use Rattle.vx_program.proofs.Members.{any_in}
+use Rattle.vx_program.specs.Program.{IsProgram, is_named, is_there, leads}
 use Rattle.vx_model.specs.declared.value.Value.{Value}
 use Rattle.vx_model.specs.declared.value.Heap.{Heap}
 use Rattle.vx_model.specs.Holds.{class_of, holds}
@@ -25,14 +24,6 @@ at_plain program is chains heap value x name parents own found e =
 -- and what was found is there
 pub there : (program : List Decl) (x : Bytes) (own : Decl) → Found program x own → is_there program x ≡ true
 there program x own found = any_in (is_named x) program own found.within found.named
-
--- all of what is left of a list pass a test where the next does and all behind it
-pub fails_here : {X : Type 0} (p : X → Bool) (xs : List X) (i : ℕ) (x : X) → i < length xs → x ≡ get_or xs i x → p x ≡ false → list_all p (drop i xs) ≡ false
-fails_here p xs i x within is f = at_drop_more (list_all p) xs i x within ∙ ap (λ y. p y && list_all p (drop (i + 1) xs)) (sym is) ∙ ap (λ b. b && list_all p (drop (i + 1) xs)) f
-
-pub goes_on : {X : Type 0} (p : X → Bool) (xs : List X) (i : ℕ) (x : X) → i < length xs → x ≡ get_or xs i x → p x ≡ true →
-    list_all p (drop i xs) ≡ list_all p (drop (i + 1) xs)
-goes_on p xs i x within is t = at_drop_more (list_all p) xs i x within ∙ ap (λ y. p y && list_all p (drop (i + 1) xs)) (sym is) ∙ ap (λ b. b && list_all p (drop (i + 1) xs)) t
 
 pub in_the_way : (above lets : Bool) → above ≡ true → lets ≡ false → (not above || lets) ≡ false
 in_the_way above lets a l = ap (λ b. not b || lets) a ∙ l

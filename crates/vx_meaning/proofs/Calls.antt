@@ -7,6 +7,9 @@ use Rattle.std.specs.Prelude.{IfOk}
 use Rattle.std.specs.declared.result.Result.{Result}
 use Rattle.std.specs.declared.result.Result.TheVariants.{Ok, Err}
 use Rattle.std.specs.List.{list_all, find}
+use Rattle.vx_lists.proofs.Finding.{found_is}
+use Rattle.vx_lists.proofs.Members.{each}
+use Rattle.vx_lists.proofs.Rests.{front}
 use Rattle.vx_names.specs.declared.key.FieldKey.{FieldKey}
 use Rattle.vx_syntax.specs.declared.decl.Decl.{Decl}
 use Rattle.vx_syntax.specs.declared.decl.Decl.TheVariants as d
@@ -15,7 +18,6 @@ use Rattle.vx_syntax.specs.declared.expr.Body.{Body}
 use Rattle.vx_syntax.specs.declared.expr.Stmt.{Stmt}
 use Rattle.vx_syntax.specs.declared.expr.Stmt as t
 use Rattle.vx_syntax.specs.Expressions.{Bytes}
-use Rattle.vx_program.proofs.Members.{each}
 use Rattle.vx_model.specs.declared.value.Value.{Value}
 use Rattle.vx_model.specs.declared.value.Value.TheVariants as v
 use Rattle.vx_model.specs.declared.value.Local.{Local}
@@ -24,14 +26,12 @@ use Rattle.vx_model.specs.declared.report.RunError.TheVariants as e
 use Rattle.vx_model.specs.Fields.{field_at}
 use Rattle.vx_model.specs.Values.{is_made}
 use Rattle.vx_model.specs.Meaning.{constructing, State, Done, Gives, Stops, Fails, Out, Allowance, Frame, Message, after, allowance, answer, call, expression, keys_of, meaning, report, main_message, begun, statements, with_formals}
-use Rattle.vx_model.proofs.Finding.{found_is}
 use Rattle.vx_meaning.specs.Plain.{is_plain, is_plain_decl, is_plain_statement, is_plain_expression}
 use Rattle.vx_meaning.specs.States.{done, listed, part_of}
 use Rattle.vx_meaning.specs.declared.memory.Memory.{Memory}
 use Rattle.vx_meaning.specs.declared.memory.Outcome.{Outcome}
 use Rattle.vx_meaning.specs.declared.memory.Outcome.TheVariants as o
 use Rattle.vx_meaning.proofs.Rows.{keys_same, listed_same}
-use Rattle.vx_meaning.proofs.Sizes.{at_is_in}
 
 -- a call with nothing left is out, and another does what its message says with one less
 pub call_none : (program : List Decl) (message : Message) (state : State) → call (allowance program 0) message state ≡ Stops Out state
@@ -80,11 +80,6 @@ listed_ends program part_in parts i lower frame state go values over =
     ap (λ l. listed program (map part_in l) lower frame state (λ rest. go (values ++ rest))) (drop_of_length-le parts over)
     ∙ ap (λ l. go l state) (append-nil values)
 
--- each part by itself
-pub themselves : {X : Type 0} (xs : List X) → map (λ x. x) xs ≡ xs
-themselves [] = refl
-themselves (x ∷ xs) = ap (λ l. x ∷ l) (themselves xs)
-
 -- an outcome that gives no value stays, whatever follows
 pub stays : (outcome : Outcome) (memory : Memory) → ((value : Value) → outcome ≡ o.Gives value → ⊥) → (go : Value → State → Done) → after (done outcome memory) go ≡ done outcome memory
 stays (o.Gives value) memory none go = absurd (none value refl)
@@ -130,10 +125,7 @@ pub keys_end : (program : List Decl) (class : Bytes) (given : List (Bytes × Exp
     keys_of program class (map (λ field. field.0) (drop i given)) go state ≡ go []
 keys_end program class given i go state over = ap (λ l. keys_of program class (map (λ (field : Bytes × Expr). field.0) l) go state) (drop_of_length-le given over)
 
--- each part of a plain list is plain, and so is each body of a plain program
-pub part_plain : {X : Type 0} (p : X → Bool) (xs : List X) (i : ℕ) (one : X) → i < length xs → one ≡ get_or xs i one → list_all p xs ≡ true → p one ≡ true
-part_plain p xs i one within is all = each p xs all one (at_is_in xs i one within is)
-
+-- each body of a plain program is plain
 pub found_plain : (p : Decl → Bool) (program : List Decl) (key : _) (formals : _) (body : Body) → find p program ≡ Some (d.Method key formals body) → is_plain program ≡ true →
     list_all is_plain_statement body.0 ≡ true
 found_plain p program key formals body e plain =
@@ -188,13 +180,6 @@ constructing_made program class names go state made = ap (λ b. if b then keys_o
 pub of_all : {A E : Type 0} (P : A → Type 0) (result : Result A E) → ((a : A) → P a) → IfOk result P
 of_all P (Ok a) h = h a
 of_all P (Err e) h = tt
-
--- the last of those before a place, and those from it on
-front : {X : Type 0} (xs : List X) (i : ℕ) (x : X) → 0 < i → i ≤ length xs → x ≡ get_or xs (i - 1) x → drop (i - 1) xs ≡ x ∷ drop i xs
-front xs i x some within is =
-    let back : i - 1 + 1 ≡ i = omega arith in
-    let before : i - 1 < length xs = omega arith in
-    drop_more xs (i - 1) x before ∙ ap (λ y. y ∷ drop (i - 1 + 1) xs) (sym is) ∙ ap (λ n. x ∷ drop n xs) back
 
 -- formals from the last, without a name or with one
 pub formals_end : (formals : List (Option Bytes)) (values : List Value) (go : List (Bytes × Local) → Done) (otherwise : Done) → length formals ≡ length values →

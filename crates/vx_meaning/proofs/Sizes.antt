@@ -1,7 +1,8 @@
 -- How large the parts of a program are, beside the whole.
-use Rattle.std.proofs.Common.{◌≡◌, ◌∙◌, ℕ, ◌+◌, ◌≤◌, ◌<◌, List, [], ◌∷◌, Some, map, sum, length, get_or, refl, sym, ap, inl, inr, zero, suc, arith}
-use Rattle.std.proofs.lemmas.List.Sums.{sum_by-cons}
+use Rattle.std.proofs.Common.{◌≡◌, ◌∙◌, ℕ, ◌+◌, ◌≤◌, List, [], ◌∷◌, Some, map, sum, refl, ap, inl, inr, arith}
 use Rattle.std.specs.List.{find}
+use Rattle.vx_lists.specs.Members.{IsIn}
+use Rattle.vx_lists.proofs.Finding.{found_is}
 use Rattle.vx_names.specs.declared.key.Selector.{Selector}
 use Rattle.vx_names.specs.declared.key.MethodKey.{MethodKey}
 use Rattle.vx_syntax.specs.declared.decl.Decl.{Decl}
@@ -13,8 +14,6 @@ use Rattle.vx_syntax.specs.declared.expr.Body.{Body}
 use Rattle.vx_syntax.specs.Expressions.{Bytes}
 use Rattle.vx_syntax.specs.Counts.{expr_size, stmt_size, size, greatest, expr_size_step, stmt_size_step, body_size_step}
 use Rattle.vx_syntax.proofs.Layers as l
-use Rattle.vx_program.specs.Program.{IsIn}
-use Rattle.vx_model.proofs.Finding.{found_is}
 use Rattle.vx_meaning.specs.States.{part_of, decl_size, largest}
 
 pub send_size : (selector : Selector) (arguments : List Expr) → expr_size (x.Send selector arguments) ≡ 1 + sum (map expr_size arguments)
@@ -37,21 +36,6 @@ statement_size (t.Back part) = let e : stmt_size (t.Back part) ≡ expr_size par
 
 pub body_size : (body : Body) → size body ≡ sum (map stmt_size body.0)
 body_size body = l.of_body ℕ ℕ ℕ expr_size_step stmt_size_step body_size_step body.0
-
--- one of a list has at most the size of all
-one_of_sum : {X : Type 0} (f : X → ℕ) (xs : List X) (one : X) → IsIn one xs → f one ≤ sum (map f xs)
-one_of_sum f [] one i = absurd i
-one_of_sum f (y ∷ ys) one (inl same) = let e : sum (map f (y ∷ ys)) ≡ f y + sum (map f ys) = sum_by-cons (λ n. n) (f y) (map f ys) in let s : f y ≡ f one = ap f same in omega arith
-one_of_sum f (y ∷ ys) one (inr i) = let e : sum (map f (y ∷ ys)) ≡ f y + sum (map f ys) = sum_by-cons (λ n. n) (f y) (map f ys) in let r : f one ≤ sum (map f ys) = one_of_sum f ys one i in omega arith
-
--- what stands at a place is one of the list
-pub at_is_in : {X : Type 0} (xs : List X) (i : ℕ) (one : X) → i < length xs → one ≡ get_or xs i one → IsIn one xs
-at_is_in [] i one within is = absurd (omega (arith, within))
-at_is_in (y ∷ ys) zero one within is = inl (sym is)
-at_is_in (y ∷ ys) (suc i) one within is = inr (at_is_in ys i one (omega (arith, within)) is)
-
-pub part_size : {X : Type 0} (f : X → ℕ) (xs : List X) (i : ℕ) (one : X) → i < length xs → one ≡ get_or xs i one → f one ≤ sum (map f xs)
-part_size f xs i one within is = one_of_sum f xs one (at_is_in xs i one within is)
 
 -- the body of a method of the program has at most the size of the largest
 one_of_greatest : {X : Type 0} (f : X → ℕ) (xs : List X) (one : X) → IsIn one xs → f one ≤ greatest (map f xs)

@@ -2,9 +2,9 @@
 use Rattle.std.proofs.Common.{◌≡◌, ◌∙◌, ℕ, zero, suc, List, [], ◌∷◌, ◌++◌, ◌<◌, ◌≤◌, ◌+◌, min, ◌&&◌, Bool, true, false, length, take, drop, set, slice_get, Some, sym, ap, refl, arith}
 use Rattle.std.proofs.lemmas.Bool.{cond-true, cond-false}
 use Rattle.std.proofs.Math.ListN.{drop_of_length-le}
-use Rattle.vx_program.proofs.Chains.{same_bytes}
 use Rattle.std.proofs.Math.Numerals.{suc-eq-add-one}
 use Rattle.std.specs.Str.{bytes_eq}
+use Rattle.vx_lists.proofs.Texts.{same_bytes}
 use Rattle.vx_names.specs.declared.key.FieldKey.{FieldKey}
 use Rattle.vx_model.specs.declared.value.Value.{Value}
 use Rattle.vx_model.specs.Holds.{same_field}

@@ -5,6 +5,9 @@ use Rattle.std.specs.Prelude.{if◌then◌else◌}
 use Rattle.std.specs.Str.{bytes_eq}
 use Rattle.std.proofs.lemmas.Bool.{false≢true, cases_Bool, cond-true, cond-false, and_parts, or_cases, or_left, or_right, both_ways, false_from_ne_true, not-true}
 use Rattle.std.proofs.lemmas.List.{length_push}
+use Rattle.vx_lists.proofs.Each.{all_at}
+use Rattle.vx_lists.proofs.Places.{stands, mapped_behind}
+use Rattle.vx_lists.proofs.Texts.{same_bytes}
 use Rattle.vx_names.specs.declared.key.FieldKey.{FieldKey}
 use Rattle.vx_syntax.specs.declared.decl.Decl.{Decl}
 use Rattle.vx_syntax.specs.declared.expr.Expr as x
@@ -13,7 +16,6 @@ use Rattle.vx_syntax.specs.Expressions.{Bytes, Scope, is_bound, is_variable, bri
 use Rattle.vx_syntax.specs.Written.{is_over, is_last, AreNew, IsWritten, AreWritten, AreFieldsWritten, IsBodyWritten, AreStated}
 use Rattle.vx_program.specs.Prelude.{sealed}
 use Rattle.vx_program.specs.Program.{IsProgram, is_name_of}
-use Rattle.vx_program.proofs.Chains.{same_bytes}
 use Rattle.vx_model.specs.declared.value.Value.{Value}
 use Rattle.vx_model.specs.declared.value.Local.{Local}
 use Rattle.vx_model.specs.declared.value.Local.TheVariants as l
@@ -25,7 +27,7 @@ use Rattle.vx_model.specs.Order.{plain_names}
 use Rattle.vx_model.specs.Fields.{field_at}
 use Rattle.vx_model.specs.Values.{object, nil, fresh_slots, unnamed, is_meant, is_made}
 use Rattle.vx_model.specs.Meaning.{State, Back, Fails, Out, Stuck, Done, Gives, Stops, after, Message, Allowance, call, Frame, bound, given, named, assigned, field_names, keys_of, constructing, filled, made, statements_of, closed, expression, parts, fields, in_scope, statements}
-use Rattle.vx_model.proofs.Sound.{IsLater, as_late, later_on, class, IsSound, AreSound, IsLocal, AreBindings, Covers, IsHeld, IsHeap, within, all_at, still_sound, all_still_sound, still_bindings, with_value, later_thing, later_value, later_held, later_value_at, heap_with_thing, heap_with_value, heap_with_held, heap_with_value_at, with_value_at, mapped_behind}
+use Rattle.vx_model.proofs.Sound.{IsLater, as_late, later_on, class, IsSound, AreSound, IsLocal, AreBindings, Covers, IsHeld, IsHeap, still_sound, all_still_sound, still_bindings, with_value, later_thing, later_value, later_held, later_value_at, heap_with_thing, heap_with_value, heap_with_held, heap_with_value_at, with_value_at}
 use Rattle.vx_model.proofs.Things.{meant_sound, nil_sound, fresh_sound, filled_sound}
 
 -- ---- how an evaluation ends
@@ -142,7 +144,7 @@ named_fine : (program : List Decl) (name : Bytes) (local : Option Local) (state 
     IsFine program state.heap (named program name local state)
 named_fine program name (Some (l.Plain value)) state is s = (is, as_late state.heap, s)
 named_fine program name (Some (l.Cell i)) state is s =
-    let r = within state.heap.cells i s in
+    let r = stands state.heap.cells i s in
     subst (λ (o : Option Value). IsFine program state.heap (given o state)) (sym r.1)
     (is, as_late state.heap, all_at (IsSound state.heap) state.heap.cells i r.0 r.1 is.values)
 named_fine program name None state is s = by (is_meant program name) refl

@@ -5,6 +5,10 @@ use Rattle.std.specs.List.{find}
 use Rattle.std.specs.Ordering.{ordering_then}
 use Rattle.std.specs.Str.{bytes_eq}
 use Rattle.std.proofs.lemmas.Bool.{false≢true, both_ways, and_parts, or_cases, or_left, or_right, not-true}
+use Rattle.vx_lists.specs.Members.{IsIn}
+use Rattle.vx_lists.proofs.Finding.{found_is, only_found}
+use Rattle.vx_lists.proofs.Members.{each, all_of}
+use Rattle.vx_lists.proofs.Texts.{bytes_same}
 use Rattle.vx_names.specs.declared.key.MethodKey.{MethodKey}
 use Rattle.vx_names.specs.declared.key.DeclKey.TheVariants as k
 use Rattle.vx_names.specs.Key.{method_key_cmp}
@@ -12,14 +16,11 @@ use Rattle.vx_names.specs.KeyLaws.{method_keys_total}
 use Rattle.vx_names.proofs.Keys.{keys_apart}
 use Rattle.vx_syntax.specs.declared.decl.Decl.{Decl}
 use Rattle.vx_syntax.specs.Expressions.{Bytes}
-use Rattle.vx_program.specs.Program.{IsIn, IsProgram, leads}
-use Rattle.vx_program.proofs.Members.{each}
-use Rattle.vx_program.proofs.Chains.{bytes_same}
+use Rattle.vx_program.specs.Program.{IsProgram, leads}
 use Rattle.vx_model.specs.declared.look.Look.{Look}
 use Rattle.vx_model.specs.declared.look.Look.TheVariants as l
 use Rattle.vx_model.specs.Lookup.{are_above, differ, is_more_specific, same_method, is_best, IsBest, choice}
 use Rattle.vx_model.proofs.Orders.{Chains, no_two}
-use Rattle.vx_model.proofs.Finding.{found_is, only_found, all_of}
 
 -- names that are above one another, each with its match, do not differ
 none_differ : (program : List Decl) → IsProgram program → Chains → (xs ys : List Bytes) → are_above program xs ys ≡ true → are_above program ys xs ≡ true →

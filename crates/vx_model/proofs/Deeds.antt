@@ -1,11 +1,12 @@
 -- Primitives have what they need.
-use Rattle.std.proofs.Common.{◌≡◌, ℕ, zero, suc, ◌+◌, ◌<◌, Bool, true, false, List, [], ◌∷◌, ◌++◌, length, codes, Some, refl, sym, ap, ◌∙◌, subst, inl, inr, arith}
-use Rattle.std.specs.List.{slice_get, position_from, list_any}
+use Rattle.std.proofs.Common.{◌≡◌, ℕ, zero, suc, ◌+◌, ◌<◌, Bool, true, false, List, [], ◌∷◌, ◌++◌, length, codes, Some, refl, sym, ap, ◌∙◌, subst, arith}
+use Rattle.std.specs.List.{slice_get, position_from}
 use Rattle.std.specs.Prelude.{ℤ, pos, ◌+ℤ◌, ◌-ℤ◌, ◌*ℤ◌, if◌then◌else◌, int_lt, int_div, int_rem, nat_le, replicate}
 use Rattle.std.specs.Ordering.{int_eq}
 use Rattle.std.specs.Str.{bytes_eq}
-use Rattle.std.proofs.lemmas.Bool.{false≢true, cases_Bool, and_parts, cond-true, cond-false, or_cases}
+use Rattle.std.proofs.lemmas.Bool.{false≢true, and_parts}
 use Rattle.std.proofs.lemmas.Option.{same_Some}
+use Rattle.vx_lists.proofs.Places.{mapped_at, placed}
 use Rattle.vx_names.specs.declared.key.MethodKey.{MethodKey}
 use Rattle.vx_names.specs.declared.key.DeclKey.TheVariants as k
 use Rattle.vx_syntax.specs.declared.decl.Decl.{Decl}
@@ -23,7 +24,7 @@ use Rattle.vx_model.specs.Lookup.{are_held}
 use Rattle.vx_model.specs.Primitives.{Operation, Add, Subtract, Multiply, Divide, Remainder, Less, SameNumber, SameString, Join, Same, PrintNumber, PrintString, Evaluate, Repeat, operations, Deed, Answers, Prints, Breaks, Evaluates, Repeats, Lacks, fits, number, divided, remainder, joined, same_value, deed}
 use Rattle.vx_model.proofs.Sound.{also, IsSound, AreSound, IsHeap}
 use Rattle.vx_model.proofs.Things.{truth_sound}
-use Rattle.vx_model.proofs.Counting.{number_held, string_held, closure_held, mapped_at}
+use Rattle.vx_model.proofs.Counting.{number_held, string_held, closure_held}
 
 -- what a primitive does is sound, and it lacks nothing
 abbrev pub IsDeed : Heap → Deed → Type 0
@@ -178,23 +179,6 @@ suits_at program heap (own ∷ keys) [] suit i key e = absurd suit
 suits_at program heap (own ∷ keys) (operation ∷ rest) suit zero key e =
     (operation, refl, subst (λ (z : MethodKey). Suits program heap z.specialisers operation) (same_Some own key e) suit.0)
 suits_at program heap (own ∷ keys) (operation ∷ rest) suit (suc i) key e = suits_at program heap keys rest suit.1 i key e
-
--- where one of a list passes, a place is found, at which one passes
-placed : {X : Type 0} (test : X → Bool) (xs : List X) (n : ℕ) → list_any test xs ≡ true →
-    (i : ℕ) × (x : X) × (position_from test n xs ≡ Some (n + i)) × (slice_get xs i ≡ Some x) × (test x ≡ true)
-placed test [] n h = absurd (false≢true h)
-placed test (x ∷ xs) n h =
-    elim (cases_Bool (test x)) [
-      | inl t ↦ (zero, x, cond-true (test x) (Some n) (position_from test (n + 1) xs) t ∙ ap Some (omega arith), refl, t)
-      | inr f ↦
-          elim (or_cases (test x) (list_any test xs) h) [
-            | inl t ↦ absurd (false≢true (sym f ∙ t))
-            | inr more ↦
-                let r = placed test xs (n + 1) more in
-                let same : n + 1 + r.0 ≡ n + suc r.0 = omega arith in
-                (suc r.0, r.1, cond-false (test x) (Some n) (position_from test (n + 1) xs) f ∙ r.2 ∙ ap Some same, r.3, r.4)
-          ]
-    ]
 
 -- A primitive is found by its key, and its operation lacks nothing for values that count as its specialisers.
 pub primitive_suits : (program : List Decl) → IsProgram program → (heap : Heap) → IsHeap program heap → (key : MethodKey) → is_primitive (k.Method key) ≡ true →

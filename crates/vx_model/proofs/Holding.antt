@@ -2,21 +2,22 @@
 use Rattle.std.proofs.Common.{◌≡◌, ℕ, zero, suc, ◌<◌, Bool, true, false, not, ◌||◌, List, [], ◌∷◌, refl, sym, ap, ◌∙◌, subst, inl, inr, arith}
 use Rattle.std.specs.List.{list_all}
 use Rattle.std.proofs.lemmas.Bool.{false≢true, and_parts, and_from, or_parts}
+use Rattle.std.specs.Cmp.Derive.{one_truth}
+use Rattle.vx_lists.specs.Members.{IsIn}
+use Rattle.vx_lists.proofs.Members.{any_in, in_any, none_of, each, all_of}
+use Rattle.vx_lists.proofs.Texts.{same_bytes, bytes_same}
 use Rattle.vx_syntax.specs.declared.decl.Decl.{Decl}
 use Rattle.vx_syntax.specs.declared.decl.Decl.TheVariants as d
 use Rattle.vx_syntax.specs.declared.test.Test.{Test}
 use Rattle.vx_syntax.specs.Expressions.{Bytes}
 use Rattle.vx_program.specs.Prelude.{sealed}
-use Rattle.vx_program.specs.Program.{IsIn, IsProgram, Leads, here, up, leads, is_named, is_there, is_predicate_there, is_name_of, parents_of}
-use Rattle.vx_program.proofs.Members.{any_in, in_any, none_of, each}
-use Rattle.vx_program.proofs.Chains.{same_bytes, bytes_same}
+use Rattle.vx_program.specs.Program.{IsProgram, Leads, here, up, leads, is_named, is_there, is_predicate_there, is_name_of, parents_of}
 use Rattle.vx_model.specs.declared.value.Value.{Value}
 use Rattle.vx_model.specs.declared.value.Heap.{Heap}
 use Rattle.vx_model.specs.Order.{is_above}
 use Rattle.vx_model.specs.Holds.{Holds, plain, predicate, AllHold, none, more, holds, lets_hold, is_true, class_of}
-use Rattle.vx_model.proofs.Orders.{Chains, on, same_truth}
+use Rattle.vx_model.proofs.Orders.{Chains, on}
 use Rattle.vx_model.proofs.Heights.{height, lower, one_named, above_named, above_is, above_on}
-use Rattle.vx_model.proofs.Finding.{all_of}
 
 -- all that is above a name stands in no way
 abbrev Lets : List Decl → Heap → Value → Bytes → Type 0
@@ -78,7 +79,7 @@ above_plain program is (up {x = x} decl parent j n p chain) parents i =
 pub holds_plain : (program : List Decl) → IsProgram program → Chains → (heap : Heap) (value : Value) (x : Bytes) (parents : List Bytes) →
     IsIn (d.Object x parents) program → holds program heap value x ≡ leads program (class_of heap value) x
 holds_plain program is chains heap value x parents i =
-    same_truth (holds program heap value x) (leads program (class_of heap value) x)
+    one_truth (holds program heap value x) (leads program (class_of heap value) x)
     (λ h. (holds_is program heap value x h).1 (d.Object x parents) i (chains.finds program x x here))
     (λ l. is_holds program heap value x (there program x (d.Object x parents) i (bytes_same x x refl)) (λ decl j a. lets l decl j a))
   where

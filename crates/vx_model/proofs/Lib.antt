@@ -1,7 +1,6 @@
 pub mod Orders
 pub mod Walking
 pub mod Heights
-pub mod Finding
 pub mod Bases
 pub mod Holding
 pub mod Choices

@@ -1,11 +1,16 @@
 -- No meaning of a program is stuck: calls are fine with every allowance.
 use Rattle.std.proofs.Common.{◌≡◌, ℕ, zero, suc, ◌<◌, ◌⊎◌, Bool, true, false, ◌&&◌, List, [], ◌∷◌, ◌++◌, map, length, Option, Some, None, is_some, refl, sym, ap, ◌∙◌, subst, inl, inr, arith}
-use Rattle.std.specs.List.{AllByRecursion, slice_get, find, position_from}
+use Rattle.std.specs.List.{slice_get, find, position_from}
 use Rattle.std.specs.Option.{IfSome}
 use Rattle.std.specs.Prelude.{◌==◌, if◌then◌else◌}
 use Rattle.std.specs.Str.{bytes_eq}
 use Rattle.std.proofs.lemmas.Bool.{false≢true, and_parts, or_parts, or_from, or_right, cond-false, eqb-true}
 use Rattle.std.proofs.lemmas.List.{length-map}
+use Rattle.vx_lists.specs.Members.{IsIn}
+use Rattle.vx_lists.proofs.Each.{all_at, all_joined}
+use Rattle.vx_lists.proofs.Finding.{found_is, is_found, left_is}
+use Rattle.vx_lists.proofs.Members.{any_in, in_either}
+use Rattle.vx_lists.proofs.Places.{stands}
 use Rattle.vx_names.specs.declared.key.Selector.{Selector}
 use Rattle.vx_names.specs.declared.key.MethodKey.{MethodKey}
 use Rattle.vx_names.specs.declared.key.FieldKey.{FieldKey}
@@ -19,10 +24,10 @@ use Rattle.vx_syntax.specs.Expressions.{Bytes, Scope, is_variable, is_among, wit
 use Rattle.vx_syntax.specs.Declarations.{any, named, formal_scope}
 use Rattle.vx_syntax.specs.Written.{AreNew, AreStated}
 use Rattle.vx_program.specs.Prelude.{same_key, primitive_keys, is_primitive}
-use Rattle.vx_program.specs.Program.{IsIn, IsProgram, occupied, occupies, is_method_of, getter, setter}
+use Rattle.vx_program.specs.Program.{IsProgram, occupied, occupies, is_method_of, getter, setter}
 use Rattle.vx_program.specs.Methods.{with_selector, methods}
 use Rattle.vx_program.proofs.ByKey.{occupies_is, is_occupied}
-use Rattle.vx_program.proofs.Members.{any_in, key_itself}
+use Rattle.vx_program.proofs.Members.{key_itself}
 use Rattle.vx_model.specs.declared.value.Value.{Value}
 use Rattle.vx_model.specs.declared.value.Local.{Local}
 use Rattle.vx_model.specs.declared.value.Local.TheVariants as l
@@ -38,10 +43,9 @@ use Rattle.vx_model.specs.Lookup.{are_held, is_below, applicable, lookup}
 use Rattle.vx_model.specs.Values.{nil}
 use Rattle.vx_model.specs.Primitives.{Operation, Deed, Answers, Prints, Breaks, Evaluates, Repeats, Lacks, deed}
 use Rattle.vx_model.specs.Meaning as m
-use Rattle.vx_model.specs.Meaning.{State, Back, Fails, Out, Stuck, Done, Gives, Stops, after, Message, Allowance, call, Frame, bound, given, put_slot, statements, if_home, caught, entered, evaluated, evaluation, turns, with_closure_of, doing, primitive, accessed, made_by, found, answer, allowance, report, main_message, begun, meaning}
+use Rattle.vx_model.specs.Meaning.{State, Back, Fails, Out, Stuck, Done, Gives, Stops, Message, Allowance, call, Frame, bound, given, put_slot, statements, if_home, caught, entered, evaluated, evaluation, turns, with_closure_of, doing, primitive, accessed, made_by, found, answer, allowance, report, main_message, begun, meaning}
 use Rattle.vx_model.proofs.Choices.{one_is}
-use Rattle.vx_model.proofs.Finding.{found_is, is_found, left_is}
-use Rattle.vx_model.proofs.Sound.{as_late, later_on, IsSound, AreSound, IsBinding, AreBindings, Covers, IsThing, IsHeld, IsHeap, all_at, within, still_held, with_thing_at, later_thing_at, heap_with_thing_at}
+use Rattle.vx_model.proofs.Sound.{as_late, later_on, IsSound, AreSound, IsBinding, AreBindings, Covers, IsThing, IsHeld, IsHeap, still_held, with_thing_at, later_thing_at, heap_with_thing_at}
 use Rattle.vx_model.proofs.Things.{nil_sound, slot_sound, put_sound, opening_sound}
 use Rattle.vx_model.proofs.Bodies.{IsFine, fine_later, after_fine, AreFine, call_fine, still_variable, other_name, statements_fine}
 use Rattle.vx_model.proofs.Counting.{field_held}
@@ -87,10 +91,6 @@ bound_behind (own ∷ scope) rest y h =
 all_named : (formals : List Bytes) → named (map Some formals) ≡ formals
 all_named [] = refl
 all_named (x ∷ xs) = ap (λ (names : List Bytes). x ∷ names) (all_named xs)
-
-all_joined : {X : Type 0} (P : X → Type 0) (xs ys : List X) → AllByRecursion P xs → AllByRecursion P ys → AllByRecursion P (xs ++ ys)
-all_joined P [] ys all more = more
-all_joined P (x ∷ xs) ys all more = (all.0, all_joined P xs ys all.1 more)
 
 -- ---- bodies of methods and closures
 
@@ -167,7 +167,7 @@ module _ (program : List Decl) (well : IsProgram program) where
       (by (length one.0.formals == count) refl)
     where
       one : (held : Held) × (slice_get state.heap.closures i ≡ Some held)
-      one = within state.heap.closures i there
+      one = stands state.heap.closures i there
 
       by : (b : Bool) → (length one.0.formals == count) ≡ b → IsFine program state.heap (if b then go one.0 else Stops (Fails (e.ClosureArity count)) state)
       by true h = next one.0 (all_at (IsHeld state.heap) state.heap.closures i one.0 one.1 is.held) (eqb-true (length one.0.formals) count h)
@@ -274,11 +274,6 @@ among_keys selector (k.Method own ∷ keys) key i = by (is_method_of selector (k
     by true more (inl same) = inl (ap k.Method same)
     by true more (inr j) = inr (more j)
     by false more j = inr (more j)
-
-in_either : {X : Type 0} (xs ys : List X) (x : X) → IsIn x (xs ++ ys) → IsIn x xs ⊎ IsIn x ys
-in_either [] ys x i = inr i
-in_either (y ∷ xs) ys x (inl same) = inl (inl same)
-in_either (y ∷ xs) ys x (inr i) = elim (in_either xs ys x i) [ inl j ↦ inl (inr j) | inr j ↦ inr j ]
 
 -- a method of a selector is made by a declaration, or is a primitive
 method_made : (decls : List Decl) (selector : Selector) (key : MethodKey) → IsIn key (methods decls selector) →

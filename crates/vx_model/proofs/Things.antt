@@ -6,6 +6,10 @@ use Rattle.std.specs.Prelude.{if◌then◌else◌}
 use Rattle.std.specs.Str.{bytes_eq}
 use Rattle.std.proofs.lemmas.Bool.{false≢true, and_from, and_parts, not_from_false, not-true}
 use Rattle.std.proofs.lemmas.List.Folds.{find_at}
+use Rattle.vx_lists.specs.Members.{IsIn}
+use Rattle.vx_lists.proofs.Finding.{found_is, is_found}
+use Rattle.vx_lists.proofs.Members.{any_in, in_any}
+use Rattle.vx_lists.proofs.Texts.{same_bytes, bytes_same}
 use Rattle.vx_names.specs.declared.key.FieldKey.{FieldKey}
 use Rattle.vx_syntax.specs.declared.decl.Decl.{Decl}
 use Rattle.vx_syntax.specs.declared.decl.Decl.TheVariants as d
@@ -14,9 +18,7 @@ use Rattle.vx_syntax.specs.declared.decl.Start.TheVariants as s
 use Rattle.vx_syntax.specs.Expressions.{Bytes}
 use Rattle.vx_syntax.specs.Declarations.{any}
 use Rattle.vx_program.specs.Prelude.{prelude}
-use Rattle.vx_program.specs.Program.{IsIn, IsProgram, is_name_of}
-use Rattle.vx_program.proofs.Chains.{same_bytes, bytes_same}
-use Rattle.vx_program.proofs.Members.{any_in, in_any}
+use Rattle.vx_program.specs.Program.{IsProgram, is_name_of}
 use Rattle.vx_model.specs.declared.value.Value.{Value}
 use Rattle.vx_model.specs.declared.value.Thing.{Thing}
 use Rattle.vx_model.specs.declared.value.Heap.{Heap}
@@ -25,7 +27,6 @@ use Rattle.vx_model.specs.Fields.{slots}
 use Rattle.vx_model.specs.Holds.{same_field, slot}
 use Rattle.vx_model.specs.Values.{object, nil, truth, start_value, fresh, opening, unnamed, is_meant}
 use Rattle.vx_model.specs.Meaning.{put_slot, filled}
-use Rattle.vx_model.proofs.Finding.{found_is, is_found}
 use Rattle.vx_model.proofs.Bases.{in_plain}
 use Rattle.vx_model.proofs.Sound.{IsLater, as_late, class, IsSound, AreSound, IsSlot, IsThing, IsHeap}
 

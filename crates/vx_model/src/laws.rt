@@ -1,11 +1,12 @@
 //! What holds of the definitions.
 ghost use Rattle.std.specs.Prelude.{◌≡◌, ◌↔◌, ◌⊎◌, ℕ, List, [], Option, Some, true, is_some};
+ghost use Rattle.vx_lists.specs.Members.{IsIn};
 ghost use Rattle.vx_names.specs.declared.key.Selector.{Selector};
 ghost use Rattle.vx_names.specs.declared.key.FieldKey.{FieldKey};
 ghost use Rattle.vx_names.specs.declared.key.MethodKey.{MethodKey};
 ghost use Rattle.vx_syntax.specs.declared.decl.Decl.{Decl};
 ghost use Rattle.vx_syntax.specs.Expressions.{Bytes};
-ghost use Rattle.vx_program.specs.Program.{IsIn, IsProgram, Leads, is_there};
+ghost use Rattle.vx_program.specs.Program.{IsProgram, Leads, is_there};
 ghost use Rattle.vx_model.specs.declared.look.Look.TheVariants.{One, None, Many};
 ghost use Rattle.vx_model.specs.declared.value.Heap.{Heap};
 ghost use Rattle.vx_model.specs.declared.value.Value.{Value};

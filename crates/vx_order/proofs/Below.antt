@@ -6,14 +6,16 @@ use Rattle.std.proofs.Math.Bool.{or_assoc, or-false}
 use Rattle.std.proofs.lemmas.Bool.{false≢true, or_right, cases_eq}
 use Rattle.std.proofs.lemmas.List.{get_or_read_under, get_or-set_same, get_or-set_other, length-set, take_all}
 use Rattle.std.proofs.lemmas.List.Folds.{list_any_more}
+use Rattle.std.proofs.lemmas.Option.{same_Some}
+use Rattle.vx_lists.specs.Members.{IsIn}
+use Rattle.vx_lists.proofs.Places.{in_at}
+use Rattle.vx_lists.proofs.Texts.{same_bytes, bytes_same}
 use Rattle.vx_names.specs.Key.{key_name}
 use Rattle.vx_syntax.specs.declared.decl.Decl.{Decl}
 use Rattle.vx_syntax.specs.declared.decl.Decl.TheVariants as d
 use Rattle.vx_syntax.specs.Expressions.{Bytes}
 use Rattle.vx_syntax.specs.Keys.{key_of}
-use Rattle.vx_program.specs.Program.{IsIn, IsProgram, is_named, is_there, leads, mentioned, parents_of}
-use Rattle.vx_program.proofs.Chains.{same_bytes, bytes_same}
-use Rattle.vx_program.proofs.Sought.{in_at, some_is}
+use Rattle.vx_program.specs.Program.{IsProgram, is_named, is_there, leads, mentioned, parents_of}
 use Rattle.vx_model.proofs.Orders.{Chains, stands_somewhere}
 use Rattle.vx_model.proofs.Heights.{height, lower, one_up}
 use Rattle.vx_order.specs.Known.{IsKnown}
@@ -67,7 +69,7 @@ known_more program y known place found is within right = record {
   places = length-set known place (Some found) ∙ is.places;
   right = λ other decl x own e stands n. elim (cases_eq other place) [
     | inl same ↦
-        sym (some_is found own (sym (get_or-set_same known place (Some found) None (omega (arith, is.places))) ∙
+        sym (same_Some found own (sym (get_or-set_same known place (Some found) None (omega (arith, is.places))) ∙
         ap (λ p. get_or (set known place (Some found)) p None) (sym same) ∙ e)) ∙
         right decl x (ap (slice_get program) (sym same) ∙ stands) n
     | inr differs ↦ is.right other decl x own (sym (get_or-set_other known place other (Some found) None differs) ∙ e) stands n
@@ -108,7 +110,7 @@ pub leads_at : (program : List Decl) → IsProgram program → Chains → (y : B
     slice_get program place ≡ Some own → named ≡ is_named y own → parents ≡ parents_of own → length parents ≤ i → found ≡ is_below_by program y named parents i →
     (decl : Decl) (x : Bytes) → slice_get program place ≡ Some decl → is_named x decl ≡ true → found ≡ leads program x y
 leads_at program is chains y place own named parents i found stands name same end e decl x at n =
-    let one : own ≡ decl = some_is own decl (sym stands ∙ at) in
+    let one : own ≡ decl = same_Some own decl (sym stands ∙ at) in
     e ∙ ap (λ ps. named || list_any (λ p. leads program p y) ps) (take_all i parents end ∙ same ∙ ap parents_of one) ∙
     ap (λ b. b || list_any (λ p. leads program p y) (parents_of decl)) (name ∙ ap (is_named y) one ∙ named_as x y decl n) ∙
     sym (one_up program is chains x y decl (in_at program place decl at) n)

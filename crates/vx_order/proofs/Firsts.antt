@@ -2,22 +2,19 @@
 use Rattle.std.proofs.Common.{◌≡◌, ◌<◌, List, [], ◌∷◌, drop, Some, None, inl, refl, sym, ap, ◌∙◌, subst}
 use Rattle.std.specs.List.{slice_get}
 use Rattle.std.proofs.lemmas.Bool.{false≢true}
+use Rattle.vx_lists.specs.Members.{IsIn}
+use Rattle.vx_lists.proofs.Places.{left_at, none_first}
+use Rattle.vx_lists.proofs.Texts.{same_bytes, bytes_same}
 use Rattle.vx_syntax.specs.declared.decl.Decl.{Decl}
 use Rattle.vx_syntax.specs.declared.decl.Decl.TheVariants as d
 use Rattle.vx_syntax.specs.declared.test.Test.{Test}
 use Rattle.vx_syntax.specs.Expressions.{Bytes}
-use Rattle.vx_program.specs.Program.{IsIn, IsProgram, is_named}
-use Rattle.vx_program.proofs.Chains.{same_bytes, bytes_same}
+use Rattle.vx_program.specs.Program.{IsProgram, is_named}
 use Rattle.vx_model.specs.Order.{base}
 use Rattle.vx_model.proofs.Orders.{Chains}
 use Rattle.vx_model.proofs.Heights.{height, lower}
 use Rattle.vx_model.proofs.Bases.{base_plain, base_first, base_none}
-use Rattle.vx_model.proofs.Places.{Found, left_at}
-
--- a list without a first is empty
-none_first : (xs : List Bytes) → slice_get xs 0 ≡ None → xs ≡ []
-none_first [] e = refl
-none_first (x ∷ xs) e = absurd (cc)
+use Rattle.vx_model.proofs.Places.{Found}
 
 -- a predicate that was found, with its own name and with the one by which it was sought
 predicate_in : (program : List Decl) (x name : Bytes) (parents : List Bytes) (test : Test) (own : Decl) → Found program x own → own ≡ d.Predicate name parents test →

@@ -2,13 +2,13 @@
 use Rattle.std.proofs.Common.{◌≡◌, ℕ, ◌+◌, Bool, true, false, List, [], ◌∷◌, ◌++◌, filter, drop, Some, refl, sym, ap, ◌∙◌, append_assoc}
 use Rattle.std.specs.List.{slice_get}
 use Rattle.std.proofs.lemmas.Bool.{cond-true, cond-false}
+use Rattle.vx_lists.proofs.Places.{left_at}
+use Rattle.vx_lists.proofs.Texts.{bytes_same}
 use Rattle.vx_syntax.specs.declared.decl.Decl.{Decl}
 use Rattle.vx_syntax.specs.declared.decl.Decl.TheVariants as d
 use Rattle.vx_syntax.specs.Expressions.{Bytes}
 use Rattle.vx_program.specs.Program.{is_named, leads}
-use Rattle.vx_program.proofs.Chains.{bytes_same}
 use Rattle.vx_model.specs.Order.{plain_names}
-use Rattle.vx_model.proofs.Places.{left_at}
 
 -- those of the plain objects among the declarations that lead to the name
 abbrev pub below_in : List Decl → Bytes → List Decl → List Bytes

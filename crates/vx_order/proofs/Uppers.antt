@@ -4,14 +4,14 @@ use Rattle.std.specs.List.{slice_get}
 use Rattle.std.specs.Option.{is_some}
 use Rattle.std.proofs.lemmas.List.{append-nil, at_drop_all}
 use Rattle.std.proofs.lemmas.Bool.{false≢true, cond-true, cond-false}
+use Rattle.vx_lists.proofs.Members.{any_in}
+use Rattle.vx_lists.proofs.Places.{in_at, left_at}
 use Rattle.vx_syntax.specs.declared.decl.Decl.{Decl}
 use Rattle.vx_syntax.specs.declared.decl.Decl.TheVariants as d
 use Rattle.vx_syntax.specs.Expressions.{Bytes}
 use Rattle.vx_program.specs.Program.{is_named, is_there, leads}
-use Rattle.vx_program.proofs.Members.{any_in}
-use Rattle.vx_program.proofs.Sought.{in_at}
 use Rattle.vx_model.specs.Order.{is_above, object_names, up}
-use Rattle.vx_model.proofs.Places.{left_at, not_there}
+use Rattle.vx_model.proofs.Places.{not_there}
 
 -- the names of those of the declarations that are above the name
 abbrev pub above_in : List Decl → Bytes → List Decl → List Bytes

@@ -1,4 +1,5 @@
 ghost use Rattle.std.specs.Prelude.{◌≡◌, ◌+◌, ◌<◌, ◌≤◌, ◌^◌, ℕ, List, ◌∷◌, [], ◌++◌, codes, length, Ok, Result, is_none};
+ghost use Rattle.vx_lists.specs.Members.{IsIn};
 ghost use Rattle.vx_syntax.specs.declared.decl.Decl.{Decl};
 ghost use Rattle.vx_syntax.specs.declared.token.Token.TheVariants.{Number};
 ghost use Rattle.vx_syntax.specs.Counts.{height};
@@ -6,7 +7,7 @@ ghost use Rattle.vx_syntax.specs.Print.{decl_text};
 ghost use Rattle.vx_syntax.specs.Written.{IsDeclWritten};
 ghost use Rattle.vx_program.specs.declared.edit.Change.TheVariants.{Add};
 ghost use Rattle.vx_program.specs.Prelude.{prelude};
-ghost use Rattle.vx_program.specs.Program.{IsIn, IsProgram};
+ghost use Rattle.vx_program.specs.Program.{IsProgram};
 ghost use Rattle.vx_program.specs.declared.edit.Edit as program;
 ghost use Rattle.vx_program.specs.Apply.{IsWritable};
 ghost use Rattle.vx_reader.specs.declared.command.Command.{Command};

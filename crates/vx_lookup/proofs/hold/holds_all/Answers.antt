@@ -1,9 +1,10 @@
 use Rattle.std.proofs.Common.{◌≡◌, ◌<◌, ◌||◌, not, Bool, true, length, get_or, sym, ◌∙◌, subst}
+use Rattle.vx_lists.proofs.Rests.{fails_here, goes_on}
 use Rattle.vx_syntax.specs.declared.decl.Decl.{Decl}
 use Rattle.vx_model.specs.Order.{is_above}
 use Rattle.vx_model.specs.Holds.{lets_hold}
 use Rattle.vx_model.proofs.Places.{marked, stands}
-use Rattle.vx_lookup.proofs.Held.{fails_here, goes_on, in_the_way, not_above, lets_it}
+use Rattle.vx_lookup.proofs.Held.{in_the_way, not_above, lets_it}
 use Rattle.vx_lookup.proofs.hold.holds_all.Goals as goal
 use Rattle.vx_lookup.proofs.hold.holds_all.Goals.{else-has-via-then-has+else-not-lets_hold, else-has-via-else-has}
 

@@ -1,5 +1,8 @@
 use Rattle.std.proofs.Common.{sum, drop, ◌∙◌, ap, sym, subst, suc, Some, arith, ◌≡◌, ◌≤◌, [], ℕ, List, None, true, map, length, ◌+◌, ◌-◌, ◌*◌, ◌<◌, ◌++◌}
 use Rattle.std.specs.List.{find, position_from, list_all}
+use Rattle.std.proofs.lemmas.List.{map-id}
+use Rattle.vx_lists.proofs.Counts.{part_size}
+use Rattle.vx_lists.proofs.Rests.{part_plain}
 use Rattle.vx_names.specs.declared.key.MethodKey.{MethodKey}
 use Rattle.vx_names.specs.declared.key.DeclKey.TheVariants as k
 use Rattle.vx_syntax.specs.Counts.{size, expr_size, stmt_size}
@@ -16,9 +19,9 @@ use Rattle.vx_model.specs.declared.look.Look.TheVariants as look
 use Rattle.vx_model.specs.declared.report.RunError.TheVariants as e
 use Rattle.vx_model.specs.Lookup.{lookup}
 use Rattle.vx_syntax.specs.declared.decl.Decl.TheVariants as d
-use Rattle.vx_meaning.proofs.Calls.{constructing_made, of_all, call_none, call_some, room, ok_then, formals_differ, statements_more, statements_end, stays, themselves, listed_gives, listed_stops, listed_ends, part_plain, part_is_plain, found_plain}
+use Rattle.vx_meaning.proofs.Calls.{constructing_made, of_all, call_none, call_some, room, ok_then, formals_differ, statements_more, statements_end, stays, listed_gives, listed_stops, listed_ends, part_is_plain, found_plain}
 use Rattle.vx_meaning.proofs.Rows.{send_listed, new_listed, send_plain, new_plain}
-use Rattle.vx_meaning.proofs.Sizes.{send_size, new_size, statement_size, body_size, part_size, found_size}
+use Rattle.vx_meaning.proofs.Sizes.{send_size, new_size, statement_size, body_size, found_size}
 use Rattle.vx_meaning.proofs.evaluate.+evaluation.Goals as goal
 
 -- src/evaluate.rt:293:9
@@ -356,7 +359,7 @@ pub send-loop-argument-init : goal.send-loop-argument-init
 send-loop-argument-init t c =
     record {
       done = λ key given home go.
-          ap (λ l. listed c.args.program.now l (allowance c.args.program.now c.args.g) (frame_of key given home c.args.scope.now) (state_of c.args.memory.now) go) (sym (themselves c.args.arguments.now))
+          ap (λ l. listed c.args.program.now l (allowance c.args.program.now c.args.g) (frame_of key given home c.args.scope.now) (state_of c.args.memory.now) go) (sym (map-id c.args.arguments.now))
           ∙ ap (λ values. listed c.args.program.now (map (λ one. one) c.args.arguments.now) (allowance c.args.program.now c.args.g) (frame_of key given home c.args.scope.now) (state_of c.args.memory.now)
           (λ rest. go (values ++ rest))) (sym c.new-values.ensures);
       closures = c.requires.closures;

@@ -1,6 +1,7 @@
 use Rattle.std.proofs.Common.{[], ◌∷◌, ◌++◌, sym, subst}
+use Rattle.vx_lists.proofs.Places.{stands}
 use Rattle.vx_model.specs.Walks.{Walked, HasRoom}
-use Rattle.vx_model.proofs.Walking.{begins, starts, stands, last_within, goes_up}
+use Rattle.vx_model.proofs.Walking.{begins, starts, last_within, goes_up}
 use Rattle.vx_model.proofs.above.marked.Goals as goal
 
 -- src/above.rt:91:5

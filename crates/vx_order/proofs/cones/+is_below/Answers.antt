@@ -2,10 +2,11 @@ use Rattle.std.proofs.Common.{◌≡◌, ◌<◌, ℕ, true, Some, List, length,
 use Rattle.std.specs.List.{slice_get}
 use Rattle.std.proofs.Math.Bool.{or-false}
 use Rattle.std.proofs.lemmas.Option.{slice_get_read}
+use Rattle.vx_lists.specs.Members.{IsIn}
+use Rattle.vx_lists.proofs.Places.{in_at}
 use Rattle.vx_syntax.specs.declared.decl.Decl.{Decl}
 use Rattle.vx_syntax.specs.Expressions.{Bytes}
-use Rattle.vx_program.specs.Program.{IsIn, is_named, leads, parents_of}
-use Rattle.vx_program.proofs.Sought.{in_at}
+use Rattle.vx_program.specs.Program.{is_named, leads, parents_of}
 use Rattle.vx_model.proofs.Orders.{Chains}
 use Rattle.vx_model.proofs.Heights.{height}
 use Rattle.vx_order.specs.Known.{IsKnown}

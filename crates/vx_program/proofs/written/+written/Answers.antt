@@ -1,10 +1,11 @@
 use Rattle.std.proofs.Common.{arith, ◌∙◌, sym, subst, take}
 use Rattle.std.proofs.lemmas.Bool.{false≢true}
 use Rattle.std.proofs.lemmas.List.{drop_all}
+use Rattle.vx_lists.proofs.Rests.{all_at}
 use Rattle.vx_syntax.specs.Expressions.{field_names}
 use Rattle.vx_syntax.specs.Written.{AreStated, IsWritten}
 use Rattle.vx_program.proofs.Trees.{sends, closes, makes, AllWritten, AllFields}
-use Rattle.vx_program.proofs.Steps.{decided_no, decided_yes, all_at, fields_at, stated_more, brings_inside, formals_inside, outside}
+use Rattle.vx_program.proofs.Steps.{decided_no, decided_yes, fields_at, stated_more, brings_inside, formals_inside, outside}
 use Rattle.vx_program.proofs.written.+written.Goals as goal
 use Rattle.vx_program.proofs.written.+written.Goals.{is_body_written-else-is_back-via-then-is_back+else-place-body, is_body_written-else-is_back-via-else-is_back, is_new_written-then-not-is_field_name-via-then-not-is_field_name, is_new_written-then-not-is_field_name-via-else-not-is_field_name+then-is_field}
 

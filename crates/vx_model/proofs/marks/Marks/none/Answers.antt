@@ -1,6 +1,6 @@
 use Rattle.std.proofs.Common.{false}
 use Rattle.std.proofs.lemmas.List.{length-replicate}
-use Rattle.vx_model.proofs.Walking.{none_marked}
+use Rattle.vx_lists.proofs.Places.{none_marked}
 use Rattle.vx_model.proofs.marks.Marks.none.Goals as goal
 
 pub returns-clause-none : goal.returns-clause-none
