@@ -4,4 +4,3 @@ pub mod PlainRows
 pub mod Rows
 pub mod Sizes
 pub mod Slots
-pub mod Spellings

@@ -1,5 +1,5 @@
 -- Slots, sought from the first one on.
-use Rattle.std.proofs.Common.{◌≡◌, ◌∙◌, ℕ, zero, suc, List, [], ◌∷◌, ◌++◌, ◌<◌, ◌≤◌, ◌+◌, min, ◌&&◌, Bool, true, false, length, take, drop, set, slice_get, Some, sym, ap, refl, arith}
+use Rattle.std.proofs.Common.{◌≡◌, ◌∙◌, ℕ, zero, suc, List, [], ◌∷◌, ◌++◌, ◌<◌, ◌≤◌, ◌+◌, min, ◌&&◌, Bool, true, false, length, take, drop, set, get_or, sym, ap, refl, arith}
 use Rattle.std.proofs.lemmas.Bool.{cond-true, cond-false}
 use Rattle.std.proofs.Math.ListN.{drop_of_length-le}
 use Rattle.std.proofs.Math.Numerals.{suc-eq-add-one}
@@ -22,27 +22,25 @@ same_keys : (a b : FieldKey) → same_field a b ≡ true → a ≡ b
 same_keys a b h = let parts = and_both (bytes_eq a.name b.name) (bytes_eq a.specialiser b.specialiser) h in same_fields a b (same_bytes a.name b.name parts.0) (same_bytes a.specialiser b.specialiser parts.1)
 
 -- the value goes into the slot at the place, if those before it are passed
-pub put_here : (key : FieldKey) (value : Value) (slots : List (FieldKey × Value)) (i : ℕ) → i < length slots →
-    ((own : FieldKey × Value) → slice_get slots i ≡ Some own → true ≡ same_field own.0 key) →
-    take i slots ++ put_slot key value (drop i slots) ≡ set slots i (key, value)
-put_here key value [] i lt h = absurd (omega (arith, lt))
-put_here key value (own ∷ rest) zero lt h =
-    let e = sym (h own refl) in
-    cond-true (same_field own.0 key) ((own.0, value) ∷ rest) (own ∷ put_slot key value rest) e ∙ ap (λ k. (k, value) ∷ rest) (same_keys own.0 key e)
-put_here key value (own ∷ rest) (suc i) lt h = ap (λ l. own ∷ l) (put_here key value rest i (omega (arith, lt)) h)
+pub put_here : (key : FieldKey) (value : Value) (slots : List (FieldKey × Value)) (i : ℕ) (own : FieldKey × Value) → i < length slots → own ≡ get_or slots i own →
+    true ≡ same_field own.0 key → take i slots ++ put_slot key value (drop i slots) ≡ set slots i (key, value)
+put_here key value [] i own lt at h = absurd (omega (arith, lt))
+put_here key value (first ∷ rest) zero own lt at h =
+    let e = ap (λ (slot : FieldKey × Value). same_field slot.0 key) (sym at) ∙ sym h in
+    cond-true (same_field first.0 key) ((first.0, value) ∷ rest) (first ∷ put_slot key value rest) e ∙ ap (λ k. (k, value) ∷ rest) (same_keys first.0 key e)
+put_here key value (first ∷ rest) (suc i) own lt at h = ap (λ l. first ∷ l) (put_here key value rest i own (omega (arith, lt)) at h)
 
-passes : (key : FieldKey) (value : Value) (slots : List (FieldKey × Value)) (i : ℕ) → i < length slots →
-    ((own : FieldKey × Value) → slice_get slots i ≡ Some own → false ≡ same_field own.0 key) →
-    take i slots ++ put_slot key value (drop i slots) ≡ take (suc i) slots ++ put_slot key value (drop (suc i) slots)
-passes key value [] i lt h = absurd (omega (arith, lt))
-passes key value (own ∷ rest) zero lt h = cond-false (same_field own.0 key) ((own.0, value) ∷ rest) (own ∷ put_slot key value rest) (sym (h own refl))
-passes key value (own ∷ rest) (suc i) lt h = ap (λ l. own ∷ l) (passes key value rest i (omega (arith, lt)) h)
+passes : (key : FieldKey) (value : Value) (slots : List (FieldKey × Value)) (i : ℕ) (own : FieldKey × Value) → i < length slots → own ≡ get_or slots i own →
+    false ≡ same_field own.0 key → take i slots ++ put_slot key value (drop i slots) ≡ take (suc i) slots ++ put_slot key value (drop (suc i) slots)
+passes key value [] i own lt at h = absurd (omega (arith, lt))
+passes key value (first ∷ rest) zero own lt at h =
+    cond-false (same_field first.0 key) ((first.0, value) ∷ rest) (first ∷ put_slot key value rest) (ap (λ (slot : FieldKey × Value). same_field slot.0 key) (sym at) ∙ sym h)
+passes key value (first ∷ rest) (suc i) own lt at h = ap (λ l. first ∷ l) (passes key value rest i own (omega (arith, lt)) at h)
 
 -- a slot of another key is passed
-pub put_on : (key : FieldKey) (value : Value) (slots : List (FieldKey × Value)) (i : ℕ) → i < length slots →
-    ((own : FieldKey × Value) → slice_get slots i ≡ Some own → false ≡ same_field own.0 key) →
-    take i slots ++ put_slot key value (drop i slots) ≡ take (i + 1) slots ++ put_slot key value (drop (i + 1) slots)
-put_on key value slots i lt h = passes key value slots i lt h ∙ ap (λ n. take n slots ++ put_slot key value (drop n slots)) (suc-eq-add-one i)
+pub put_on : (key : FieldKey) (value : Value) (slots : List (FieldKey × Value)) (i : ℕ) (own : FieldKey × Value) → i < length slots → own ≡ get_or slots i own →
+    false ≡ same_field own.0 key → take i slots ++ put_slot key value (drop i slots) ≡ take (i + 1) slots ++ put_slot key value (drop (i + 1) slots)
+put_on key value slots i own lt at h = passes key value slots i own lt at h ∙ ap (λ n. take n slots ++ put_slot key value (drop n slots)) (suc-eq-add-one i)
 
 -- past the last slot nothing is put
 pub put_past : (key : FieldKey) (value : Value) (slots : List (FieldKey × Value)) (i : ℕ) → length slots ≤ i → take i slots ++ put_slot key value (drop i slots) ≡ slots

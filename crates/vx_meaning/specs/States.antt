@@ -1,9 +1,8 @@
 -- What the evaluator keeps, as the definition of meaning has it.
-use Rattle.std.specs.Prelude.{ℕ, ℤ, List, [], ◌∷◌, map, Option, Some, None, slice_get}
+use Rattle.std.specs.Prelude.{ℕ, List, [], ◌∷◌, map}
 use Rattle.vx_names.specs.declared.key.MethodKey.{MethodKey}
 use Rattle.vx_syntax.specs.Expressions.{Bytes}
 use Rattle.vx_model.specs.declared.value.Value.{Value}
-use Rattle.vx_model.specs.declared.value.Value.TheVariants as v
 use Rattle.vx_model.specs.declared.value.Local.{Local}
 use Rattle.vx_names.specs.declared.key.FieldKey.{FieldKey}
 use Rattle.vx_syntax.specs.declared.decl.Decl.{Decl}
@@ -12,10 +11,7 @@ use Rattle.vx_syntax.specs.declared.expr.Stmt as t
 use Rattle.vx_syntax.specs.declared.decl.Decl.TheVariants as d
 use Rattle.vx_syntax.specs.Counts.{greatest, size}
 use Rattle.vx_model.specs.declared.report.RunError.TheVariants as e
-use Rattle.vx_model.specs.Primitives.{operations, deed, Deed, Answers, Prints, Breaks, Evaluates, Repeats, Lacks}
 use Rattle.vx_model.specs.Meaning.{State, Done, Gives, Stops, Back, Fails, Out, Stuck, Frame, Allowance, after, expression}
-use Rattle.vx_meaning.specs.declared.primitives.Deed as w
-use Rattle.vx_meaning.specs.declared.primitives.Deed.TheVariants as wv
 use Rattle.vx_meaning.specs.declared.memory.Keys.{Keys}
 use Rattle.vx_meaning.specs.declared.memory.Keys.TheVariants as y
 use Rattle.vx_meaning.specs.declared.memory.Memory.{Memory}
@@ -54,18 +50,6 @@ listed program [] lower frame state go = go [] state
 listed program (part ∷ rest) lower frame state go =
     after (expression program part lower frame state) (λ value state'. listed program rest lower frame state' (λ values. go (value ∷ values)))
 
--- what a primitive does, as the code has it
-abbrev pub deed_of : w.Deed → Deed
-deed_of (wv.Answers value) = Answers value
-deed_of (wv.Prints line) = Prints line
-deed_of (wv.Breaks error) = Breaks error
-deed_of (wv.Evaluates closure arguments) = Evaluates closure arguments
-deed_of (wv.Repeats closure) = Repeats closure
-deed_of wv.Lacks = Lacks
-
-abbrev pub performed : List Decl → ℕ → List Value → Deed
-performed program number values = elim (slice_get operations number) [ Some operation ↦ deed program operation values | None ↦ Lacks ]
-
 -- the expression of a statement
 abbrev pub part_of : t.Stmt → Expr
 part_of (t.Let name part) = part
@@ -83,8 +67,3 @@ decl_size (d.Method key formals body) = size body
 
 abbrev pub largest : List Decl → ℕ
 largest program = greatest (map decl_size program)
-
--- a number, or the error where none fits
-abbrev pub of_number : Option ℤ → Deed
-of_number (Some n) = Answers (v.Int n)
-of_number None = Breaks e.Overflow

@@ -17,13 +17,13 @@ ghost use Rattle.vx_model.specs.declared.value.Local.{Local};
 
 use crate::fields::{accessed, fill};
 use crate::memory::{Flow, Keys, Memory, Outcome};
-use crate::objects::{fresh, is_made, is_meant, nil, object};
-use crate::primitives::{Deed, perform};
 use crate::scope::Scope;
 use sqlite_items::Items;
 use std::alloc::{AllocError, Global};
 use vx_lookup::{Look, lookup};
-use vx_model::{Local, RunError, Value, field_at};
+use vx_model::{
+    Deed, Local, RunError, Value, field_at, fresh, is_made, is_meant, nil, object, perform,
+};
 use vx_names::{DeclKey, FieldKey, MethodKey, Name, Selector};
 use vx_program::Program;
 use vx_syntax::{Body, Decl, Expr, Stmt};

@@ -1,17 +1,13 @@
 //! Reading and setting the slots of objects.
-ghost use Rattle.std.specs.Prelude.{◌≡◌, ◌<◌, [], ◌∷◌, Some, length, slice_get, IfOk, OnOk};
-ghost use Rattle.vx_names.specs.declared.key.FieldKey.{FieldKey};
-ghost use Rattle.vx_model.specs.declared.value.Value.{Value};
+ghost use Rattle.std.specs.Prelude.{◌≡◌, [], ◌∷◌, IfOk, OnOk};
 ghost use Rattle.vx_model.specs.declared.value.Value.TheVariants.{Object};
-ghost use Rattle.vx_model.specs.Holds.{same_field};
 ghost use Rattle.vx_model.specs.Meaning.{accessed, filled, put_slot};
 ghost use Rattle.vx_meaning.specs.States.{done, state_of};
 
 use crate::memory::{Memory, Outcome};
-use crate::objects::nil;
 use sqlite_items::Items;
 use std::alloc::{AllocError, Global};
-use vx_model::{Value, slot_of};
+use vx_model::{Value, is_same_field, nil, slot_of};
 use vx_names::FieldKey;
 use vx_program::Program;
 
@@ -73,21 +69,12 @@ fn put_slot(
     ensures { OnOk result (slots.new ≡ put_slot key.now value slots.old) }
 {
     for i in 0..slots.len() {
-        if is_key(slots.as_slice(), i, key) {
+        if is_same_field(&slots.as_slice()[i].0, key) {
             slots.set(i, (key.copy(alloc)?, value));
             return Ok(());
         }
     }
     Ok(())
-}
-
-// Whether the slot at the place has the key.
-fn is_key(slots: &[(FieldKey, Value)], i: usize, key: &FieldKey) -> bool
-    requires { i < length slots.now }
-    ensures { (own : FieldKey × Value) → slice_get slots.now i ≡ Some own → result ≡ same_field own.0 key.now }
-{
-    slots[i].0.name.bytes() == key.name.bytes()
-        && slots[i].0.specialiser.bytes() == key.specialiser.bytes()
 }
 
 /// Puts the values into the slots of the keys.

@@ -4,9 +4,7 @@
 mod evaluate;
 mod fields;
 mod memory;
-mod objects;
 mod plain;
-mod primitives;
 mod runs;
 mod scope;
 #[cfg(test)]

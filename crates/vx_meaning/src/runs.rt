@@ -1,21 +1,33 @@
 //! The meaning of a program.
-ghost use Rattle.std.specs.Prelude.{◌≡◌, true, IfOk};
+ghost use Rattle.std.specs.Prelude.{◌≡◌, List, true, IfOk};
+ghost use Rattle.vx_syntax.specs.Expressions.{Bytes};
+ghost use Rattle.vx_model.specs.declared.report.Report.TheVariants as r;
 ghost use Rattle.vx_model.specs.Meaning.{meaning, report};
 ghost use Rattle.vx_meaning.specs.Plain.{is_plain};
 ghost use Rattle.vx_meaning.specs.States.{done};
 
 use crate::evaluate::answer;
 use crate::memory::{Memory, Outcome};
-use crate::objects::opening;
 use sqlite_items::Items;
 use std::alloc::{AllocError, Global};
-use vx_model::{Report, RunError};
+use vx_model::{Report, RunError, meanings_are_never_stuck, opening};
 use vx_names::{Selector, name_of};
 use vx_program::Program;
 
 /// How the run of the program ends with an allowance of so many calls, and the lines that it prints: the meaning of the
-/// program, for one in which no method has a closure or a resend.
+/// program, for one in which no method has a closure or a resend. It lacks nothing.
 pub fn mean(alloc: Global, program: &Program, f: u8) -> Result<Report, AllocError>
+    requires { is_plain program.now ≡ true }
+    ensures meant { IfOk result (λ report. report ≡ meaning program.now f) }
+    ensures never_stuck { IfOk result (λ report. (lines : List Bytes) → report ≡ r.Stuck lines → ⊥) }
+{
+    meanings_are_never_stuck();
+    let _ = program.declarations();
+    evaluated(alloc, program, f)
+}
+
+// The call of `main` in the heap of the plain objects.
+fn evaluated(alloc: Global, program: &Program, f: u8) -> Result<Report, AllocError>
     requires { is_plain program.now ≡ true }
     ensures { IfOk result (λ report. report ≡ meaning program.now f) }
 {

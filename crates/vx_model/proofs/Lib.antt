@@ -16,5 +16,6 @@ pub mod Counting
 pub mod Deeds
 pub mod MethodTexts
 pub mod NeverStuck
+pub mod Spellings
 mod Rows
 mod MeaningRows

@@ -41,7 +41,9 @@ use Rattle.vx_model.specs.declared.report.Report.TheVariants as r
 use Rattle.vx_model.specs.Holds.{holds, slot, slot_of}
 use Rattle.vx_model.specs.Lookup.{are_held, is_below, applicable, lookup}
 use Rattle.vx_model.specs.Values.{nil}
-use Rattle.vx_model.specs.Primitives.{Operation, Deed, Answers, Prints, Breaks, Evaluates, Repeats, Lacks, deed}
+use Rattle.vx_model.specs.declared.primitives.Deed.{Deed}
+use Rattle.vx_model.specs.declared.primitives.Deed.TheVariants.{Answers, Prints, Breaks, Evaluates, Repeats, Lacks}
+use Rattle.vx_model.specs.Primitives.{Operation, deed}
 use Rattle.vx_model.specs.Meaning as m
 use Rattle.vx_model.specs.Meaning.{State, Back, Fails, Out, Stuck, Done, Gives, Stops, Message, Allowance, call, Frame, bound, given, put_slot, statements, if_home, caught, entered, evaluated, evaluation, turns, with_closure_of, doing, primitive, accessed, made_by, found, answer, allowance, report, main_message, begun, meaning}
 use Rattle.vx_model.proofs.Choices.{one_is}
@@ -281,7 +283,7 @@ method_made : (decls : List Decl) (selector : Selector) (key : MethodKey) → Is
 method_made [] selector key i =
     inr (any_in (λ one. same_key one (k.Method key)) primitive_keys (k.Method key) (among_keys selector primitive_keys key i) (key_itself (k.Method key) (k.Method key) refl))
 method_made (decl ∷ decls) selector key i =
-    elim (in_either (with_selector selector (occupied decl)) (methods decls selector) key i) [
+    elim (in_either key (with_selector selector (occupied decl)) (methods decls selector) i) [
       | inl j ↦ inl (decl, inl refl, is_occupied decl (k.Method key) (among_keys selector (occupied decl) key j))
       | inr j ↦ elim (method_made decls selector key j) [ inl other ↦ inl (other.0, inr other.1, other.2) | inr h ↦ inr h ]
     ]

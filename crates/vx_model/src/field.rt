@@ -76,14 +76,15 @@ fn slot<'a>(slots: &'a [(FieldKey, Value)], key: &FieldKey) -> Option<&'a Value>
     ensures { option_copied result ≡ slot key.now slots.now }
 {
     for own in slots {
-        if is_same(&own.0, key) {
+        if is_same_field(&own.0, key) {
             return Some(&own.1);
         }
     }
     None
 }
 
-fn is_same(a: &FieldKey, b: &FieldKey) -> bool
+/// Whether two keys are those of one field.
+pub fn is_same_field(a: &FieldKey, b: &FieldKey) -> bool
     ensures { result ≡ same_field a.now b.now }
 {
     a.name.bytes() == b.name.bytes() && a.specialiser.bytes() == b.specialiser.bytes()

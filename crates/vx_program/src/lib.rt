@@ -21,7 +21,7 @@ mod written;
 
 pub use edit::{Change, Counted, Edit, EditFault};
 pub use limits::{MAX_DECLARATIONS, MAX_DEPTH, MAX_LOCALS, MAX_METHODS};
-pub use lookup::{is_named, parents_of};
+pub use lookup::{is_named, is_sealed, parents_of};
 pub use program::Program;
 pub use reserved::Reserved;
 pub use walk::chains_are_found;

@@ -1,18 +1,8 @@
-use Rattle.std.proofs.Common.{◌∙◌, ap, sym, None, [], []}
-use Rattle.vx_model.specs.Meaning.{report, allowance, call, main_message, Message}
-use Rattle.vx_model.specs.Values.{opening}
-use Rattle.vx_syntax.specs.Expressions.{Bytes}
-use Rattle.vx_meaning.proofs.Calls.{meaning_is}
+use Rattle.std.proofs.Common.{◌∙◌, sym}
+use Rattle.std.proofs.lemmas.Result.{IfOk-weaker}
 use Rattle.vx_meaning.proofs.runs.mean.Goals as goal
 
--- src/runs.rt:18:1
-pub returns : goal.returns
-returns c =
-    let lower = allowance c.args.program.now c.args.f in
-    let named : Bytes → Message = λ name. record { selector = record { name = name; arity = 0 }; arguments = []; below = None } in
-    c.reported.ensures
-    ∙ ap report (sym c.in_ok-outcome.ensures.done)
-    ∙ ap (λ name. report (call lower (named name) (record { heap = c.in_ok-opening.field-0; next = 0; lines = c.new.result }))) c.in_ok-name_of.ensures
-    ∙ ap (λ heap. report (call lower main_message (record { heap = heap; next = 0; lines = c.new.result }))) c.in_ok-opening.ensures
-    ∙ ap (λ lines. report (call lower main_message (record { heap = opening c.args.program.now; next = 0; lines = lines }))) c.new.ensures
-    ∙ sym (meaning_is c.args.program.now c.args.f)
+pub returns-clause-never_stuck : goal.returns-clause-never_stuck
+returns-clause-never_stuck c =
+    IfOk-weaker c.evaluated.result _ _ (λ report meant lines stuck.
+    c.meanings_are_never_stuck.ensures c.args.program.now c.args.f lines c.declarations.ensures.program (sym meant ∙ stuck)) c.evaluated.ensures

@@ -1,7 +1,7 @@
 use Rattle.std.proofs.Common.{◌≡◌, ◌++◌, drop, map}
 use Rattle.vx_model.specs.Fields.{fields_above}
 use Rattle.vx_model.specs.Values.{fresh_slots, start_value}
-use Rattle.vx_meaning.proofs.objects.fresh.Given as goal
+use Rattle.vx_model.proofs.objects.fresh.Given as goal
 
 abbrev pub invariant-loop-decl : goal.invariant-loop-decl
 invariant-loop-decl l =

@@ -2,15 +2,15 @@
 ghost use Rattle.std.specs.Prelude.{◌≡◌, ◌++◌, codes, map, IfOk};
 ghost use Rattle.std.specs.Str.{bytes_eq};
 ghost use Rattle.vx_program.specs.Program.{is_name_of};
-ghost use Rattle.vx_program.specs.Prelude.{sealed};
 ghost use Rattle.vx_model.specs.Order.{plain_names};
 ghost use Rattle.vx_model.specs.Values.{object, nil, truth, start_value, fresh_slots, fresh, opening, is_meant, is_made, unnamed};
 
+use crate::above::Above;
+use crate::value::{Heap, Thing, Value};
 use sqlite_items::Items;
 use std::alloc::{AllocError, Global};
-use vx_model::{Above, Heap, Thing, Value};
 use vx_names::Name;
-use vx_program::Program;
+use vx_program::{Program, is_sealed};
 use vx_syntax::{Decl, Start};
 
 /// The plain object of the name.
@@ -29,12 +29,14 @@ pub fn object(program: &Program, x: &[u8]) -> Value
     Value::Object(place)
 }
 
+/// The object `nil`.
 pub fn nil(program: &Program) -> Value
     ensures { result ≡ nil program.now }
 {
     object(program, b"nil")
 }
 
+/// The object `true` or `false`.
 pub fn truth(program: &Program, is: bool) -> Value
     ensures { result ≡ truth program.now is }
 {
@@ -56,7 +58,7 @@ pub fn is_meant(program: &Program, x: &Name) -> bool
 pub fn is_made(program: &Program, class: &Name) -> bool
     ensures { result ≡ is_made program.now class.now }
 {
-    is_plain_name(program, class) && !is_sealed(class.bytes())
+    is_plain_name(program, class) && !is_sealed(class)
 }
 
 /// A fresh object of the class.
@@ -107,19 +109,12 @@ pub fn opening(alloc: Global, program: &Program) -> Result<Heap, AllocError>
     })
 }
 
+// Whether numbers, strings or closures stand for the object of this name.
 #[tactic(auto, using(crate::proofs::Spellings::unnamed_is))]
 fn is_unnamed(x: &[u8]) -> bool
     ensures { result ≡ is_name_of unnamed x.now }
 {
     is_spelled(x, b"int") | (is_spelled(x, b"string") | is_spelled(x, b"closure"))
-}
-
-#[tactic(auto, using(crate::proofs::Spellings::sealed_is))]
-fn is_sealed(x: &[u8]) -> bool
-    ensures { result ≡ is_name_of sealed x.now }
-{
-    let value = is_spelled(x, b"true") | (is_spelled(x, b"false") | is_spelled(x, b"nil"));
-    is_unnamed(x) | value
 }
 
 fn is_spelled(x: &[u8], bytes: &[u8]) -> bool
@@ -128,6 +123,7 @@ fn is_spelled(x: &[u8], bytes: &[u8]) -> bool
     bytes == x
 }
 
+// Whether a plain object has the name.
 fn is_plain_name(program: &Program, x: &Name) -> bool
     ensures { result ≡ is_name_of (plain_names program.now) x.now }
 {

@@ -2,9 +2,8 @@
 use Rattle.std.proofs.Common.{◌≡◌, ◌∙◌, List, ap, sym}
 use Rattle.std.proofs.lemmas.Result.{IfOk-weaker}
 use Rattle.vx_syntax.specs.declared.decl.Decl.{Decl}
-use Rattle.vx_model.specs.Primitives.{Join, deed}
-use Rattle.vx_meaning.specs.States.{deed_of, performed}
-use Rattle.vx_meaning.proofs.primitives.perform.Goals as goal
+use Rattle.vx_model.specs.Primitives.{Join, deed, performed}
+use Rattle.vx_model.proofs.primitives.perform.Goals as goal
 
 pub returns-in-0 : goal.returns-in-0
 returns-in-0 c = c.added.ensures c.args.program.now ∙ ap (λ n. performed c.args.program.now n c.args.values.now) (sym c.in-0.is)
@@ -23,7 +22,7 @@ returns-in-4 c = c.remainder.ensures c.args.program.now ∙ ap (λ n. performed 
 
 pub returns-in-8 : goal.returns-in-8
 returns-in-8 c =
-    IfOk-weaker c.joined.result (λ what. (program : List Decl) → deed_of what ≡ deed program Join c.args.values.now)
-    (λ what. deed_of what ≡ performed c.args.program.now c.args.number c.args.values.now)
+    IfOk-weaker c.joined.result (λ what. (program : List Decl) → what ≡ deed program Join c.args.values.now)
+    (λ what. what ≡ performed c.args.program.now c.args.number c.args.values.now)
     (λ what all. all c.args.program.now ∙ ap (λ n. performed c.args.program.now n c.args.values.now) (sym c.in-8.is))
     c.joined.ensures

@@ -1,30 +1,32 @@
 //! What the primitive methods do.
 ghost use Rattle.std.specs.Prelude.{◌≡◌, ◌+ℤ◌, ◌-ℤ◌, ◌*ℤ◌, List, option_map, IfOk};
 ghost use Rattle.vx_syntax.specs.declared.decl.Decl.{Decl};
-ghost use Rattle.vx_model.specs.Primitives.{Add, Subtract, Multiply, Divide, Remainder, Less, SameNumber, SameString, Join, number, divided, remainder, same_value, two_numbers, two_strings, same, print_number, print_string, evaluate, repeat, deed};
-ghost use Rattle.vx_meaning.specs.States.{deed_of, of_number, performed};
+ghost use Rattle.vx_model.specs.Primitives.{Add, Subtract, Multiply, Divide, Remainder, Less, SameNumber, SameString, Join, number, divided, remainder, same_value, two_numbers, two_strings, same, print_number, print_string, evaluate, repeat, deed, of_number, performed};
 
 use crate::objects::truth;
+use crate::report::RunError;
+use crate::value::{Value, copy_values};
 use sqlite_items::Items;
 use std::alloc::{AllocError, Global};
-use vx_model::{RunError, Value, copy_values};
 use vx_program::Program;
 
 /// The most bytes of a string at run time.
 const STRING_BYTES: usize = 65_536;
 
-/// What comes of a primitive, whatever the heap.
+/// What a primitive does, whatever the heap.
 #[derive(Drop)]
 pub enum Deed {
+    /// It answers.
     Answers(Value),
-    /// A line is printed, and the answer is nil.
+    /// It prints a line and answers nil.
     Prints(Items<u8>),
+    /// It fails.
     Breaks(RunError),
     /// The closure at this place is to be evaluated with arguments.
     Evaluates(u64, Items<Value>),
     /// The closure at this place is to be evaluated again and again.
     Repeats(u64),
-    /// The arguments are of other classes than the primitive is for, which no lookup allows.
+    /// It lacks something: its arguments are not of its classes, which no lookup allows.
     Lacks,
 }
 
@@ -35,7 +37,7 @@ pub fn perform(
     number: usize,
     values: &[Value],
 ) -> Result<Deed, AllocError>
-    ensures { IfOk result (λ what. deed_of what ≡ performed program.now number values.now) }
+    ensures { IfOk result (λ what. what ≡ performed program.now number values.now) }
 {
     match number {
         0 => Ok(added(values)),
@@ -70,7 +72,7 @@ fn two_numbers(values: &[Value]) -> Option<(i128, i128)>
 }
 
 fn added(values: &[Value]) -> Deed
-    ensures { (program : List Decl) → deed_of result ≡ deed program Add values.now }
+    ensures { (program : List Decl) → result ≡ deed program Add values.now }
 {
     match two_numbers(values) {
         Some((a, b)) => sum(a, b),
@@ -79,7 +81,7 @@ fn added(values: &[Value]) -> Deed
 }
 
 fn subtracted(values: &[Value]) -> Deed
-    ensures { (program : List Decl) → deed_of result ≡ deed program Subtract values.now }
+    ensures { (program : List Decl) → result ≡ deed program Subtract values.now }
 {
     match two_numbers(values) {
         Some((a, b)) => difference(a, b),
@@ -88,7 +90,7 @@ fn subtracted(values: &[Value]) -> Deed
 }
 
 fn multiplied(values: &[Value]) -> Deed
-    ensures { (program : List Decl) → deed_of result ≡ deed program Multiply values.now }
+    ensures { (program : List Decl) → result ≡ deed program Multiply values.now }
 {
     match two_numbers(values) {
         Some((a, b)) => product(a, b),
@@ -97,7 +99,7 @@ fn multiplied(values: &[Value]) -> Deed
 }
 
 fn divided(values: &[Value]) -> Deed
-    ensures { (program : List Decl) → deed_of result ≡ deed program Divide values.now }
+    ensures { (program : List Decl) → result ≡ deed program Divide values.now }
 {
     match two_numbers(values) {
         Some((a, b)) => quotient(a, b),
@@ -106,7 +108,7 @@ fn divided(values: &[Value]) -> Deed
 }
 
 fn remainder(values: &[Value]) -> Deed
-    ensures { (program : List Decl) → deed_of result ≡ deed program Remainder values.now }
+    ensures { (program : List Decl) → result ≡ deed program Remainder values.now }
 {
     match two_numbers(values) {
         Some((a, b)) => rest(a, b),
@@ -115,7 +117,7 @@ fn remainder(values: &[Value]) -> Deed
 }
 
 fn less(program: &Program, values: &[Value]) -> Deed
-    ensures { deed_of result ≡ deed program.now Less values.now }
+    ensures { result ≡ deed program.now Less values.now }
 {
     match two_numbers(values) {
         Some((a, b)) => Deed::Answers(truth(program, a < b)),
@@ -124,7 +126,7 @@ fn less(program: &Program, values: &[Value]) -> Deed
 }
 
 fn same_number(program: &Program, values: &[Value]) -> Deed
-    ensures { deed_of result ≡ deed program.now SameNumber values.now }
+    ensures { result ≡ deed program.now SameNumber values.now }
 {
     match two_numbers(values) {
         Some((a, b)) => Deed::Answers(truth(program, a == b)),
@@ -134,7 +136,7 @@ fn same_number(program: &Program, values: &[Value]) -> Deed
 
 // A number that fits, or the error where none does.
 fn number(n: Option<i128>) -> Deed
-    ensures { deed_of result ≡ of_number n }
+    ensures { result ≡ of_number n }
 {
     match n {
         Some(n) => Deed::Answers(Value::Int(n)),
@@ -143,25 +145,25 @@ fn number(n: Option<i128>) -> Deed
 }
 
 fn sum(a: i128, b: i128) -> Deed
-    ensures { deed_of result ≡ number (a +ℤ b) }
+    ensures { result ≡ number (a +ℤ b) }
 {
     number(a.checked_add(b))
 }
 
 fn difference(a: i128, b: i128) -> Deed
-    ensures { deed_of result ≡ number (a -ℤ b) }
+    ensures { result ≡ number (a -ℤ b) }
 {
     number(a.checked_sub(b))
 }
 
 fn product(a: i128, b: i128) -> Deed
-    ensures { deed_of result ≡ number (a *ℤ b) }
+    ensures { result ≡ number (a *ℤ b) }
 {
     number(a.checked_mul(b))
 }
 
 fn quotient(a: i128, b: i128) -> Deed
-    ensures { deed_of result ≡ divided a b }
+    ensures { result ≡ divided a b }
 {
     if b == 0 {
         return Deed::Breaks(RunError::DivideByZero);
@@ -171,7 +173,7 @@ fn quotient(a: i128, b: i128) -> Deed
 
 // What division leaves; it is 0 for the divisor -1 even where the quotient would not fit.
 fn rest(a: i128, b: i128) -> Deed
-    ensures { deed_of result ≡ remainder a b }
+    ensures { result ≡ remainder a b }
 {
     if b == 0 {
         return Deed::Breaks(RunError::DivideByZero);
@@ -192,7 +194,7 @@ fn two_strings(values: &[Value]) -> Option<(&[u8], &[u8])>
 }
 
 fn same_string(program: &Program, values: &[Value]) -> Deed
-    ensures { deed_of result ≡ deed program.now SameString values.now }
+    ensures { result ≡ deed program.now SameString values.now }
 {
     match two_strings(values) {
         Some((a, b)) => Deed::Answers(truth(program, a == b)),
@@ -201,7 +203,7 @@ fn same_string(program: &Program, values: &[Value]) -> Deed
 }
 
 fn joined(alloc: Global, values: &[Value]) -> Result<Deed, AllocError>
-    ensures { IfOk result (λ what. (program : List Decl) → deed_of what ≡ deed program Join values.now) }
+    ensures { IfOk result (λ what. (program : List Decl) → what ≡ deed program Join values.now) }
 {
     let Some((a, b)) = two_strings(values) else {
         return Ok(Deed::Lacks);
@@ -228,7 +230,7 @@ fn same_value(a: &Value, b: &Value) -> bool
 }
 
 fn same(program: &Program, values: &[Value]) -> Deed
-    ensures { deed_of result ≡ same program.now values.now }
+    ensures { result ≡ same program.now values.now }
 {
     match values {
         [a, b] => Deed::Answers(truth(program, same_value(a, b))),
@@ -237,7 +239,7 @@ fn same(program: &Program, values: &[Value]) -> Deed
 }
 
 fn print_number(alloc: Global, values: &[Value]) -> Result<Deed, AllocError>
-    ensures { IfOk result (λ what. deed_of what ≡ print_number values.now) }
+    ensures { IfOk result (λ what. what ≡ print_number values.now) }
 {
     match values {
         [Value::Int(n)] => {
@@ -250,7 +252,7 @@ fn print_number(alloc: Global, values: &[Value]) -> Result<Deed, AllocError>
 }
 
 fn print_string(alloc: Global, values: &[Value]) -> Result<Deed, AllocError>
-    ensures { IfOk result (λ what. deed_of what ≡ print_string values.now) }
+    ensures { IfOk result (λ what. what ≡ print_string values.now) }
 {
     match values {
         [Value::Text(bytes)] => {
@@ -262,7 +264,7 @@ fn print_string(alloc: Global, values: &[Value]) -> Result<Deed, AllocError>
 }
 
 fn evaluate(alloc: Global, values: &[Value]) -> Result<Deed, AllocError>
-    ensures { IfOk result (λ what. deed_of what ≡ evaluate values.now) }
+    ensures { IfOk result (λ what. what ≡ evaluate values.now) }
 {
     match values {
         [Value::Closure(place), arguments @ ..] => {
@@ -273,7 +275,7 @@ fn evaluate(alloc: Global, values: &[Value]) -> Result<Deed, AllocError>
 }
 
 fn repeat(values: &[Value]) -> Deed
-    ensures { deed_of result ≡ repeat values.now }
+    ensures { result ≡ repeat values.now }
 {
     match values {
         [Value::Closure(place)] => Deed::Repeats(*place),
