@@ -16,6 +16,7 @@ use Rattle.vx_reader.specs.Reads.{Reads}
 use Rattle.vx_batch.specs.Image.{image_of}
 use Rattle.vx_batch.specs.Text.{accepted_text, reserved_text, exists_text, missing_text, unknown_text, wrong_kind_text, cycle_text, in_use_text, limit_text, syntax_text, too_deep_text, number_too_large_text, not_yet_built_text, image_text, too_long_text}
 use Rattle.vx_batch.specs.Listing.{list_text}
+use Rattle.vx_batch.specs.Reports.{mean_text}
 use Rattle.vx_blocks.specs.declared.block.TheConstants.{BLOCK_BYTES}
 
 -- the program after an edit; one that is refused changes nothing
@@ -50,7 +51,7 @@ reply program count (Ok c.Blank) = []
 reply program count (Ok c.Image) = image_text count (image_of program)
 reply program count (Ok c.List) = list_text program
 reply program count (Ok (c.Run n)) = not_yet_built_text
-reply program count (Ok (c.Mean n)) = not_yet_built_text
+reply program count (Ok (c.Mean calls)) = mean_text program calls
 reply program count (Ok c.Why) = not_yet_built_text
 reply program count (Ok c.Journal) = not_yet_built_text
 reply program count (Ok (c.Edit edit)) = edit_reply count (apply program edit.changes)

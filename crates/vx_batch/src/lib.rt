@@ -4,6 +4,7 @@
 pub mod image;
 pub mod listing;
 mod pieces;
+pub mod report;
 mod script;
 mod session;
 pub mod text;

@@ -9,7 +9,7 @@ ghost use Rattle.vx_batch.specs.Listing.{list_text};
 ghost use Rattle.vx_batch.specs.Text.{image_text};
 ghost use Rattle.vx_batch.specs.Steps.{IsAnswered, IsEdited, IsRefusal, IsAfter};
 
-use crate::{image, listing, text};
+use crate::{image, listing, report, text};
 use std::alloc::{AllocError, Global};
 use vx_blocks::Block;
 use vx_program::{Edit, EditFault, Program};
@@ -67,7 +67,8 @@ impl Session {
             Command::Edit(edit) => self.edit(alloc, &edit),
             Command::Image => self.image(alloc),
             Command::List => self.list(alloc),
-            Command::Run(_) | Command::Mean(_) | Command::Why | Command::Journal => {
+            Command::Mean(f) => report::mean(alloc, &self.program, f),
+            Command::Run(_) | Command::Why | Command::Journal => {
                 text::refused_not_yet_built(alloc)
             }
         }

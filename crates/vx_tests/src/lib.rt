@@ -4,6 +4,8 @@
 #[cfg(test)]
 mod broken;
 #[cfg(test)]
+mod edges;
+#[cfg(test)]
 mod edits;
 #[cfg(test)]
 mod ladders;
@@ -11,6 +13,8 @@ mod ladders;
 mod limits;
 #[cfg(test)]
 mod lookups;
+#[cfg(test)]
+mod meanings;
 #[cfg(test)]
 mod objects;
 #[cfg(test)]

@@ -78,7 +78,7 @@ fn each_block_has_its_reply(rt: HostRuntime) -> Result<(), Fail> {
         ),
         (
             "add method main() { print(\"hi\") }\n.\nrun 100\n.\nmean 5\n.\nwhy\n.\njournal\n.\ndrop object a\n.\nadd object a method f() { } object zed isa q",
-            "accepted 1\nrefused not yet built\nrefused not yet built\nrefused not yet built\nrefused not yet built\nrefused missing a\nrefused unknown q\n",
+            "accepted 1\nrefused not yet built\n> hi\n= end\nrefused not yet built\nrefused not yet built\nrefused missing a\nrefused unknown q\n",
         ),
         (
             "add object a isa zed method f() { }",
