@@ -1,4 +1,4 @@
-"""A second evaluator of the language, written from its description alone, for programs without closures and resends.
+"""A second evaluator of the language, written from its description, for programs without closures and resends.
 
 It shares nothing with the compiler: programs are Python data, objects are found by going up all chains each time, and an
 evaluation is a recursion with exceptions. Expressions are tuples: ("int", n), ("string", text), ("name", name),
