@@ -9,7 +9,7 @@ use crate::fields::Fields;
 use crate::operators::{no_pending, operated, sent, value};
 use crate::stack::Stack;
 use crate::state::{Block, Bracket, Kind, Level, Next, Part, Pending, State, Within};
-use sqlite_items::Items;
+use sqlite_items::{Boxed, Items};
 use std::alloc::{AllocError, Global};
 use vx_names::Name;
 use vx_syntax::{Body, Expr, Mark, Stmt, Token};
@@ -24,8 +24,13 @@ pub fn stuck<T: Drop>(read: T) -> Next
 
 // The closure's body is read, and the statement that it stands in goes on.
 #[tactic(auto, unfolding(crate::specs::Machine::closed))]
-fn reopened(level: Level, levels: Stack<Level>, body: Items<Stmt>) -> Next
-    ensures { result ≡ spec.closed (level ∷ levels) body }
+fn reopened(
+    alloc: Global,
+    level: Level,
+    levels: Stack<Level>,
+    body: Items<Stmt>,
+) -> Result<Next, AllocError>
+    ensures { IfOk result (λ next. next ≡ spec.closed (level ∷ levels) body) }
 {
     let Level {
         pending,
@@ -35,30 +40,37 @@ fn reopened(level: Level, levels: Stack<Level>, body: Items<Stmt>) -> Next
         statements,
         formals,
     } = level;
-    let block = Block {
-        levels,
-        declared,
-        statements,
-    };
+    let block = Boxed::new(
+        alloc,
+        Block {
+            levels,
+            declared,
+            statements,
+        },
+    )?;
     let within = Within {
         brackets,
         kind,
         block,
     };
-    Next::On(State::Operated(pending, Expr::Closure(formals, Body(body)), within))
+    Ok(Next::On(State::Operated(pending, Expr::Closure(formals, Body(body)), within)))
 }
 
 /// After the `}` of a body.
 #[tactic(auto, unfolding(crate::specs::Machine::closed))]
-pub fn closed(mut levels: Stack<Level>, body: Items<Stmt>) -> Next
-    ensures { result ≡ spec.closed levels body }
+pub fn closed(
+    alloc: Global,
+    mut levels: Stack<Level>,
+    body: Items<Stmt>,
+) -> Result<Next, AllocError>
+    ensures { IfOk result (λ next. next ≡ spec.closed levels body) }
 {
     match levels.pop() {
         None => {
             drop(levels);
-            Next::Done(Body(body))
+            Ok(Next::Done(Body(body)))
         }
-        Some(level) => reopened(level, levels, body),
+        Some(level) => reopened(alloc, level, levels, body),
     }
 }
 
@@ -81,25 +93,28 @@ fn brought(alloc: Global, declared: Declared, a: &Stmt) -> Result<Declared, Allo
     }
 }
 
-fn with_statement(alloc: Global, block: Block, a: Stmt) -> Result<Block, AllocError>
+fn with_statement(alloc: Global, block: Boxed<Block>, a: Stmt) -> Result<Boxed<Block>, AllocError>
     ensures { IfOk result (λ b. b ≡ spec.with_statement block a) }
 {
     let Block {
         levels,
         declared,
         mut statements,
-    } = block;
+    } = block.into_inner();
     let declared = brought(alloc, declared, &a)?;
     statements.push(a)?;
-    Ok(Block {
-        levels,
-        declared,
-        statements,
-    })
+    Boxed::new(
+        alloc,
+        Block {
+            levels,
+            declared,
+            statements,
+        },
+    )
 }
 
 #[tactic(auto, unfolding(crate::specs::Machine::stated))]
-fn next_statement(alloc: Global, a: Stmt, block: Block) -> Result<Next, AllocError>
+fn next_statement(alloc: Global, a: Stmt, block: Boxed<Block>) -> Result<Next, AllocError>
     ensures { IfOk result (λ next. next ≡ spec.stated a block (Token.Mark Mark.Semicolon)) }
 {
     let is_last = is_back(&a);
@@ -113,26 +128,26 @@ fn next_statement(alloc: Global, a: Stmt, block: Block) -> Result<Next, AllocErr
 }
 
 #[tactic(auto, unfolding(crate::specs::Machine::stated))]
-fn last_statement(a: Stmt, block: Block) -> Result<Next, AllocError>
+fn last_statement(alloc: Global, a: Stmt, block: Boxed<Block>) -> Result<Next, AllocError>
     ensures { IfOk result (λ next. next ≡ spec.stated a block (Token.Mark Mark.CloseBlock)) }
 {
     let Block {
         levels,
         declared,
         mut statements,
-    } = block;
+    } = block.into_inner();
     drop(declared);
     statements.push(a)?;
-    Ok(closed(levels, statements))
+    closed(alloc, levels, statements)
 }
 
 #[tactic(auto, unfolding(crate::specs::Machine::stated))]
-fn stated(alloc: Global, a: Stmt, block: Block, token: Token) -> Result<Next, AllocError>
+fn stated(alloc: Global, a: Stmt, block: Boxed<Block>, token: Token) -> Result<Next, AllocError>
     ensures { IfOk result (λ next. next ≡ spec.stated a block token) }
 {
     match token {
         Token::Mark(Mark::Semicolon) => next_statement(alloc, a, block),
-        Token::Mark(Mark::CloseBlock) => last_statement(a, block),
+        Token::Mark(Mark::CloseBlock) => last_statement(alloc, a, block),
         token => Ok(stuck((a, block, token))),
     }
 }
@@ -162,7 +177,7 @@ pub fn bracketed(bracket: Bracket, mut within: Within) -> Result<State, AllocErr
 struct Call {
     pending: Pending,
     name: Name,
-    given: Arguments,
+    given: Arguments<Expr>,
 }
 
 #[tactic(auto, unfolding(crate::specs::Machine::ended))]
@@ -228,7 +243,7 @@ fn after_paren(pending: Pending, a: Expr, within: Within, token: Token) -> Next
 struct Construction {
     pending: Pending,
     parent: Name,
-    given: Fields,
+    given: Boxed<Fields>,
     field: Name,
 }
 
@@ -242,7 +257,7 @@ fn last_field(construction: Construction, a: Expr, within: Within) -> Result<Nex
         given,
         field,
     } = construction;
-    let given = given.with_last(field, a)?;
+    let given = given.into_inner().with_last(field, a)?;
     Ok(Next::On(State::Operated(pending, Expr::New(parent, given), within)))
 }
 
@@ -261,7 +276,7 @@ fn next_field(
         given,
         field,
     } = construction;
-    let given = given.with(alloc, field, a)?;
+    let given = Boxed::new(alloc, given.into_inner().with(alloc, field, a)?)?;
     Ok(Next::On(State::Inside(Part::Field(parent, given), pending, within)))
 }
 

@@ -1,39 +1,36 @@
-//! The arguments of a call that is open.
+//! Lists of at most as many as a message has arguments.
 ghost use Rattle.std.specs.Prelude.{◌≡◌, ◌∷◌, ◌++◌, ◌+◌, ◌<◌, ◌≤◌, [], length, nat_lt, IfOk};
 ghost use Rattle.vx_syntax.specs.Expressions.{max_arguments};
 
 use sqlite_items::Items;
 use std::alloc::{AllocError, Global};
 use std::marker::Model;
-use vx_syntax::Expr;
+use vx_syntax::MAX_ARGUMENTS;
 
-const MAX_ARGUMENTS: usize = 8;
-
-/// The arguments of a call before the one that is read, fewer than a call may have. Contracts see their list.
+/// The arguments of a call before the one that is read, or what stands for each of them: fewer than a call may have.
+/// Contracts see their list.
 #[derive(Drop)]
-pub struct Arguments {
-    given: Items<Expr>,
+pub struct Arguments<T> {
+    given: Items<T>,
 }
 
-impl Model for Arguments {
+impl<T> Model for Arguments<T> {
     ghost use Rattle.std.specs.Prelude.{List, length, ◌<◌};
-    ghost use Rattle.std.specs.Coded.{codes};
-    ghost use Rattle.vx_syntax.specs.declared.expr.Expr.{Expr};
-    ghost use Rattle.vx_syntax.specs.contracts.expr.Expr as e;
+    ghost use Rattle.std.specs.Coded.{coded_list};
     ghost use Rattle.vx_syntax.specs.Expressions.{max_arguments};
 
-    ghost Value = { List Expr };
+    ghost Value = { List T };
 
-    ghost coded = { Prim.hlevel (codes, e.the_row.coded) };
+    ghost coded = { coded_list T.code };
 
     ghost view = { λ a. a.given };
 
     ghost invariant = { λ a. length a.given < max_arguments };
 }
 
-impl Arguments {
+impl<T> Arguments<T> {
     /// No arguments yet.
-    pub fn new(alloc: Global) -> Arguments
+    pub fn new(alloc: Global) -> Arguments<T>
         ensures { result ≡ [] }
     {
         Arguments {
@@ -47,9 +44,11 @@ impl Arguments {
     {
         self.given.len() + 1 < MAX_ARGUMENTS
     }
+}
 
+impl<T: Drop> Arguments<T> {
     /// The arguments with one more, after which another follows.
-    pub fn with(self, a: Expr) -> Result<Arguments, AllocError>
+    pub fn with(self, a: T) -> Result<Arguments<T>, AllocError>
         requires { length self + 1 < max_arguments }
         ensures { IfOk result (λ all. all ≡ self ++ a ∷ []) }
     {
@@ -59,7 +58,7 @@ impl Arguments {
     }
 
     /// The arguments with the last one.
-    pub fn with_last(self, a: Expr) -> Result<Items<Expr>, AllocError>
+    pub fn with_last(self, a: T) -> Result<Items<T>, AllocError>
         ensures all { IfOk result (λ all. all ≡ self ++ a ∷ []) }
         ensures few { IfOk result (λ all. length all ≤ max_arguments) }
     {

@@ -9,15 +9,13 @@ use crate::state::{Next, Part, Pending, State, Within};
 use sqlite_items::Items;
 use std::alloc::{AllocError, Global};
 use vx_names::Name;
-use vx_syntax::{Mark, Token};
-
-const MAX_FORMALS: usize = 4;
+use vx_syntax::{MAX_CLOSURE_FORMALS, Mark, Token};
 
 #[tactic(auto, unfolding(crate::specs::Machine::formal))]
 fn formal(given: Items<Name>, x: Name, pending: Pending, within: Within) -> Next
     ensures { result ≡ spec.formal given x pending within }
 {
-    if is_bound_after(given.as_slice(), &within.block, &x) {
+    if is_bound_after(given.as_slice(), within.block.get(), &x) {
         stuck((given, x, pending, within))
     } else {
         Next::On(State::Inside(Part::Formed(given, x), pending, within))
@@ -91,7 +89,7 @@ fn another_formal(
 ) -> Result<Next, AllocError>
     ensures { IfOk result (λ next. next ≡ spec.formed given x pending within (Token.Mark Mark.Comma)) }
 {
-    if given.len() + 1 < MAX_FORMALS {
+    if given.len() + 1 < MAX_CLOSURE_FORMALS {
         Ok(Next::On(State::Inside(with_formal(given, x)?, pending, within)))
     } else {
         Ok(stuck((given, x, pending, within)))

@@ -5,7 +5,7 @@ ghost use Rattle.vx_bodies.specs.Machine as spec;
 use crate::after::{after_operand, bracketed, stuck};
 use crate::fields::Fields;
 use crate::state::{Bracket, Next, Part, Pending, State, Within};
-use sqlite_items::Items;
+use sqlite_items::{Boxed, Items};
 use std::alloc::{AllocError, Global};
 use vx_names::{FIELD_NAME_BYTES, Name};
 use vx_syntax::{Expr, Keyword, Mark, Token};
@@ -60,10 +60,10 @@ pub fn parent(
 }
 
 #[tactic(auto, unfolding(crate::specs::Machine::field))]
-fn field(parent: Name, given: Fields, f: Name, pending: Pending, within: Within) -> Next
+fn field(parent: Name, given: Boxed<Fields>, f: Name, pending: Pending, within: Within) -> Next
     ensures { result ≡ spec.field parent given f pending within }
 {
-    if f.bytes().len() > FIELD_NAME_BYTES || given.has(&f) {
+    if f.bytes().len() > FIELD_NAME_BYTES || given.get().has(&f) {
         stuck((parent, given, f, pending, within))
     } else {
         Next::On(State::Inside(Part::FieldName(parent, given, f), pending, within))
@@ -78,17 +78,20 @@ pub fn first_field(
     pending: Pending,
     within: Within,
     token: Token,
-) -> Next
-    ensures { result ≡ spec.first_field parent pending within token }
+) -> Result<Next, AllocError>
+    ensures { IfOk result (λ next. next ≡ spec.first_field parent pending within token) }
 {
     match token {
-        Token::Mark(Mark::CloseBlock) => Next::On(State::Operated(
+        Token::Mark(Mark::CloseBlock) => Ok(Next::On(State::Operated(
             pending,
             Expr::New(parent, Items::new(alloc)),
             within,
-        )),
-        Token::Word(f) => field(parent, Fields::new(alloc), f, pending, within),
-        token => stuck((parent, pending, within, token)),
+        ))),
+        Token::Word(f) => {
+            let given = Boxed::new(alloc, Fields::new(alloc))?;
+            Ok(field(parent, given, f, pending, within))
+        }
+        token => Ok(stuck((parent, pending, within, token))),
     }
 }
 
@@ -96,7 +99,7 @@ pub fn first_field(
 #[tactic(auto, unfolding(crate::specs::Machine::next_field))]
 pub fn next_field(
     parent: Name,
-    given: Fields,
+    given: Boxed<Fields>,
     pending: Pending,
     within: Within,
     token: Token,
@@ -113,7 +116,7 @@ pub fn next_field(
 #[derive(Drop)]
 pub struct Named {
     pub parent: Name,
-    pub given: Fields,
+    pub given: Boxed<Fields>,
     pub field: Name,
 }
 

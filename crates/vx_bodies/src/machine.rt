@@ -12,7 +12,7 @@ use crate::operand::{called, first_argument, operand, resend, resend_dots, resen
 use crate::stack::Stack;
 use crate::state::{Block, Next, Part, Pending, State, Within};
 use crate::statement::{after_let, after_var, bound, closing, named, statement};
-use sqlite_items::Items;
+use sqlite_items::{Boxed, Items};
 use std::alloc::{AllocError, Global};
 use vx_names::Name;
 use vx_syntax::Token;
@@ -34,11 +34,14 @@ fn declared(alloc: Global, formals: &[Option<Name>]) -> Result<Declared, AllocEr
 pub fn begin(alloc: Global, formals: &[Option<Name>]) -> Result<State, AllocError>
     ensures { IfOk result (λ state. state ≡ spec.begun (formal_scope formals.now)) }
 {
-    Ok(State::Statement(Block {
-        levels: Stack::new(alloc),
-        declared: declared(alloc, formals)?,
-        statements: Items::new(alloc),
-    }))
+    Ok(State::Statement(Boxed::new(
+        alloc,
+        Block {
+            levels: Stack::new(alloc),
+            declared: declared(alloc, formals)?,
+            statements: Items::new(alloc),
+        },
+    )?))
 }
 
 #[tactic(auto, unfolding(crate::specs::Machine::inside))]
@@ -64,7 +67,7 @@ fn inside(
         Part::Object => Ok(object(pending, within, token)),
         Part::Isa => Ok(isa(pending, within, token)),
         Part::Parent(name) => parent(alloc, name, pending, within, token),
-        Part::FirstField(name) => Ok(first_field(alloc, name, pending, within, token)),
+        Part::FirstField(name) => first_field(alloc, name, pending, within, token),
         Part::Field(name, given) => Ok(next_field(name, given, pending, within, token)),
         Part::FieldName(parent, given, field) => field_name(
             Named {
@@ -97,6 +100,6 @@ pub fn step(alloc: Global, state: State, token: Token) -> Result<Next, AllocErro
         State::Let(block) => Ok(after_let(block, token)),
         State::LetVar(block) => Ok(after_var(block, token)),
         State::Bound(block, is_variable, name) => Ok(bound(alloc, block, is_variable, name, token)),
-        State::Closing(block) => Ok(closing(block, token)),
+        State::Closing(block) => closing(alloc, block, token),
     }
 }

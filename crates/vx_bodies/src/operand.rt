@@ -9,7 +9,7 @@ use crate::declared::Declared;
 use crate::operators::{no_pending, sent};
 use crate::stack::Stack;
 use crate::state::{Block, Bracket, Level, Next, Part, Pending, State, Within};
-use sqlite_items::Items;
+use sqlite_items::{Boxed, Items};
 use std::alloc::{AllocError, Global};
 use vx_names::{Name, Operator};
 use vx_syntax::{Expr, Keyword, Mark, Token};
@@ -41,12 +41,13 @@ pub fn opened(
     let Within {
         brackets,
         kind,
-        block: Block {
-            mut levels,
-            declared,
-            statements,
-        },
+        block,
     } = within;
+    let Block {
+        mut levels,
+        declared,
+        statements,
+    } = block.into_inner();
     levels.push(Level {
         pending,
         brackets,
@@ -55,11 +56,14 @@ pub fn opened(
         statements,
         formals,
     })?;
-    Ok(Next::On(State::Statement(Block {
-        levels,
-        declared: Declared::new(alloc),
-        statements: Items::new(alloc),
-    })))
+    Ok(Next::On(State::Statement(Boxed::new(
+        alloc,
+        Block {
+            levels,
+            declared: Declared::new(alloc),
+            statements: Items::new(alloc),
+        },
+    )?)))
 }
 
 #[tactic(auto, unfolding(crate::specs::Machine::operand))]

@@ -4,27 +4,30 @@ ghost use Rattle.vx_syntax.specs.Expressions.{comparing, adding, multiplying, le
 ghost use Rattle.vx_bodies.specs.Machine as spec;
 
 use crate::state::{Left, Pending};
-use sqlite_items::Items;
+use sqlite_items::{Boxed, Items};
 use std::alloc::{AllocError, Global};
-use vx_names::{Name, Operator, Selector, name_of};
+use vx_names::{Name, Operator, Selector};
 use vx_syntax::Expr;
 
 fn operation(alloc: Global, operator: Operator, a: Expr, b: Expr) -> Result<Expr, AllocError>
     ensures { IfOk result (λ v. v ≡ operation operator a b) }
 {
-    let name = name_of(alloc, operator.bytes())?;
+    let name = operator.name(alloc)?;
     let mut operands = Items::new(alloc);
     operands.push(a)?;
     operands.push(b)?;
     Ok(Expr::Send(Selector { name, arity: 2 }, operands))
 }
 
-fn joined(alloc: Global, left: Option<Left>, a: Expr) -> Result<Expr, AllocError>
+fn joined(alloc: Global, left: Option<Boxed<Left>>, a: Expr) -> Result<Expr, AllocError>
     ensures { IfOk result (λ v. v ≡ spec.joined left a) }
 {
     match left {
         None => Ok(a),
-        Some(left) => operation(alloc, left.operator, left.operand, a),
+        Some(left) => {
+            let Left { operand, operator } = left.into_inner();
+            operation(alloc, operator, operand, a)
+        }
     }
 }
 
@@ -80,7 +83,7 @@ fn multiplied(
     Ok(Pending {
         comparing,
         adding,
-        multiplying: Some(Left { operand, operator }),
+        multiplying: Some(Boxed::new(alloc, Left { operand, operator })?),
     })
 }
 
@@ -102,7 +105,7 @@ fn added(
     let operand = joined(alloc, adding, product)?;
     Ok(Pending {
         comparing,
-        adding: Some(Left { operand, operator }),
+        adding: Some(Boxed::new(alloc, Left { operand, operator })?),
         multiplying: None,
     })
 }
@@ -118,7 +121,7 @@ fn compared(
 {
     let operand = value(alloc, pending, a)?;
     Ok(Pending {
-        comparing: Some(Left { operand, operator }),
+        comparing: Some(Boxed::new(alloc, Left { operand, operator })?),
         adding: None,
         multiplying: None,
     })

@@ -7,23 +7,12 @@ ghost use Rattle.vx_bodies.specs.Scopes.{is_listed};
 use crate::stack::Stack;
 use crate::state::{Block, Level};
 use vx_names::Name;
-
-/// Whether the name is one of these.
-pub fn is_among(names: &[Name], x: &[u8]) -> bool
-    ensures { result ≡ is_among names.now x.now }
-{
-    for name in names {
-        if name.bytes() == x {
-            return true;
-        }
-    }
-    false
-}
+use vx_syntax::is_among;
 
 fn has(level: &Level, x: &Name, variable: bool) -> bool
     ensures { result ≡ (is_among level.now.formals x.now && not variable || is_listed variable level.now.declared x.now) }
 {
-    is_among(level.formals.as_slice(), x.bytes()) && !variable || level.declared.has(x, variable)
+    is_among(level.formals.as_slice(), x) && !variable || level.declared.has(x, variable)
 }
 
 #[tactic(auto, using(crate::proofs::Scopes::outer_at, crate::proofs::Scopes::outer_past))]
@@ -66,5 +55,5 @@ pub fn is_variable_in_scope(block: &Block, x: &Name) -> bool
 pub fn is_bound_after(formals: &[Name], block: &Block, x: &Name) -> bool
     ensures { result ≡ is_bound (with_formals (block_scope block.now) formals.now) x.now }
 {
-    is_among(formals, x.bytes()) || is_in_scope(block, x)
+    is_among(formals, x) || is_in_scope(block, x)
 }

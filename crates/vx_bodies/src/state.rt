@@ -1,9 +1,10 @@
-//! What the machine holds between two tokens.
+//! What the machine holds between two tokens. A state is moved at each token, so what is large in it and changes seldom is
+//! boxed.
 use crate::arguments::Arguments;
 use crate::declared::Declared;
 use crate::fields::Fields;
 use crate::stack::Stack;
-use sqlite_items::Items;
+use sqlite_items::{Boxed, Items};
 use vx_names::{Name, Operator};
 use vx_syntax::{Body, Expr, Stmt};
 
@@ -17,9 +18,9 @@ pub struct Left {
 /// What waits for an operand, at each level of infix operators from the loosest to the tightest.
 #[derive(Drop)]
 pub struct Pending {
-    pub comparing: Option<Left>,
-    pub adding: Option<Left>,
-    pub multiplying: Option<Left>,
+    pub comparing: Option<Boxed<Left>>,
+    pub adding: Option<Boxed<Left>>,
+    pub multiplying: Option<Boxed<Left>>,
 }
 
 /// An open bracket, with what waits outside it for the operand that it makes.
@@ -27,9 +28,9 @@ pub struct Pending {
 pub enum Bracket {
     Paren(Pending),
     /// A call: its name, and the arguments before the one that is read.
-    Arguments(Pending, Name, Arguments),
+    Arguments(Pending, Name, Arguments<Expr>),
     /// A constructor: its parent, the fields before the one that is read, and that one's name.
-    Fields(Pending, Name, Fields, Name),
+    Fields(Pending, Name, Boxed<Fields>, Name),
 }
 
 /// What becomes of the expression that makes a statement.
@@ -68,7 +69,7 @@ pub struct Block {
 pub struct Within {
     pub brackets: Stack<Bracket>,
     pub kind: Kind,
-    pub block: Block,
+    pub block: Boxed<Block>,
 }
 
 /// The beginning of an operand.
@@ -99,9 +100,9 @@ pub enum Part {
     /// `object isa name {`
     FirstField(Name),
     /// `object isa name { .. ,`, with the fields so far
-    Field(Name, Fields),
+    Field(Name, Boxed<Fields>),
     /// `object isa name { .. field`, with the fields before this one
-    FieldName(Name, Fields, Name),
+    FieldName(Name, Boxed<Fields>, Name),
     /// `resend`
     Resend,
     /// `resend (`
@@ -120,17 +121,17 @@ pub enum State {
     /// An operand is read.
     Operated(Pending, Expr, Within),
     /// A statement may begin.
-    Statement(Block),
+    Statement(Boxed<Block>),
     /// The first name of a statement is read.
-    Named(Block, Name),
+    Named(Boxed<Block>, Name),
     /// `let`
-    Let(Block),
+    Let(Boxed<Block>),
     /// `let var`
-    LetVar(Block),
+    LetVar(Boxed<Block>),
     /// `let name` or `let var name`, which may be assigned where the flag is true
-    Bound(Block, bool, Name),
+    Bound(Boxed<Block>, bool, Name),
     /// Only the end of the body may follow.
-    Closing(Block),
+    Closing(Boxed<Block>),
 }
 
 /// Where a token leads.

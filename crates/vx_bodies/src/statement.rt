@@ -9,11 +9,12 @@ use crate::operators::no_pending;
 use crate::scope::{is_in_scope, is_variable_in_scope};
 use crate::stack::Stack;
 use crate::state::{Block, Kind, Next, State, Within};
+use sqlite_items::Boxed;
 use std::alloc::{AllocError, Global};
 use vx_names::Name;
 use vx_syntax::{Keyword, Mark, Token};
 
-fn as_statement(alloc: Global, kind: Kind, block: Block) -> Within
+fn as_statement(alloc: Global, kind: Kind, block: Boxed<Block>) -> Within
     ensures { result ≡ spec.as_statement kind block }
 {
     Within {
@@ -23,29 +24,29 @@ fn as_statement(alloc: Global, kind: Kind, block: Block) -> Within
     }
 }
 
-fn expression(alloc: Global, kind: Kind, block: Block) -> Next
+fn expression(alloc: Global, kind: Kind, block: Boxed<Block>) -> Next
     ensures { result ≡ Next.On (State.Operand spec.no_pending (spec.as_statement kind block)) }
 {
     Next::On(State::Operand(no_pending(), as_statement(alloc, kind, block)))
 }
 
-fn ended(block: Block) -> Next
-    ensures { result ≡ spec.closed block.levels block.statements }
+fn ended(alloc: Global, block: Boxed<Block>) -> Result<Next, AllocError>
+    ensures { IfOk result (λ next. next ≡ spec.closed block.levels block.statements) }
 {
     let Block {
         levels,
         declared,
         statements,
-    } = block;
+    } = block.into_inner();
     drop(declared);
-    closed(levels, statements)
+    closed(alloc, levels, statements)
 }
 
 #[tactic(auto, unfolding(crate::specs::Machine::semicolon))]
-fn semicolon(block: Block) -> Next
+fn semicolon(block: Boxed<Block>) -> Next
     ensures { result ≡ spec.semicolon block.statements block }
 {
-    if block.statements.is_empty() {
+    if block.get().statements.is_empty() {
         Next::On(State::Closing(block))
     } else {
         stuck(block)
@@ -54,7 +55,7 @@ fn semicolon(block: Block) -> Next
 
 /// Where a statement may begin.
 #[tactic(auto, unfolding(crate::specs::Machine::statement))]
-pub fn statement(alloc: Global, block: Block, token: Token) -> Result<Next, AllocError>
+pub fn statement(alloc: Global, block: Boxed<Block>, token: Token) -> Result<Next, AllocError>
     requires { IsSmall token }
     ensures { IfOk result (λ next. next ≡ spec.statement block token) }
 {
@@ -62,7 +63,7 @@ pub fn statement(alloc: Global, block: Block, token: Token) -> Result<Next, Allo
         Token::Keyword(Keyword::Let) => Ok(Next::On(State::Let(block))),
         Token::Mark(Mark::Caret) => Ok(expression(alloc, Kind::Answer, block)),
         Token::Word(x) => Ok(Next::On(State::Named(block, x))),
-        Token::Mark(Mark::CloseBlock) => Ok(ended(block)),
+        Token::Mark(Mark::CloseBlock) => ended(alloc, block),
         Token::Mark(Mark::Semicolon) => Ok(semicolon(block)),
         token => operand(
             alloc,
@@ -74,10 +75,10 @@ pub fn statement(alloc: Global, block: Block, token: Token) -> Result<Next, Allo
 }
 
 #[tactic(auto, unfolding(crate::specs::Machine::named))]
-fn assigned(alloc: Global, block: Block, name: Name) -> Next
+fn assigned(alloc: Global, block: Boxed<Block>, name: Name) -> Next
     ensures { result ≡ spec.named block name (Token.Mark Mark.Becomes) }
 {
-    if is_variable_in_scope(&block, &name) {
+    if is_variable_in_scope(block.get(), &name) {
         expression(alloc, Kind::Changed(name), block)
     } else {
         stuck((block, name))
@@ -86,7 +87,12 @@ fn assigned(alloc: Global, block: Block, name: Name) -> Next
 
 /// After the first name of a statement.
 #[tactic(auto, unfolding(crate::specs::Machine::named))]
-pub fn named(alloc: Global, block: Block, name: Name, token: Token) -> Result<Next, AllocError>
+pub fn named(
+    alloc: Global,
+    block: Boxed<Block>,
+    name: Name,
+    token: Token,
+) -> Result<Next, AllocError>
     ensures { IfOk result (λ next. next ≡ spec.named block name token) }
 {
     match token {
@@ -102,10 +108,10 @@ pub fn named(alloc: Global, block: Block, name: Name, token: Token) -> Result<Ne
 }
 
 #[tactic(auto, unfolding(crate::specs::Machine::fresh))]
-fn fresh(block: Block, is_variable: bool, name: Name) -> Next
+fn fresh(block: Boxed<Block>, is_variable: bool, name: Name) -> Next
     ensures { result ≡ spec.fresh block is_variable name }
 {
-    if is_in_scope(&block, &name) {
+    if is_in_scope(block.get(), &name) {
         stuck((block, name))
     } else {
         Next::On(State::Bound(block, is_variable, name))
@@ -114,7 +120,7 @@ fn fresh(block: Block, is_variable: bool, name: Name) -> Next
 
 /// After `let`.
 #[tactic(auto, unfolding(crate::specs::Machine::after_let))]
-pub fn after_let(block: Block, token: Token) -> Next
+pub fn after_let(block: Boxed<Block>, token: Token) -> Next
     ensures { result ≡ spec.after_let block token }
 {
     match token {
@@ -126,7 +132,7 @@ pub fn after_let(block: Block, token: Token) -> Next
 
 /// After `let var`.
 #[tactic(auto, unfolding(crate::specs::Machine::after_var))]
-pub fn after_var(block: Block, token: Token) -> Next
+pub fn after_var(block: Boxed<Block>, token: Token) -> Next
     ensures { result ≡ spec.after_var block token }
 {
     match token {
@@ -137,7 +143,13 @@ pub fn after_var(block: Block, token: Token) -> Next
 
 /// After `let name` or `let var name`.
 #[tactic(auto, unfolding(crate::specs::Machine::bound))]
-pub fn bound(alloc: Global, block: Block, is_variable: bool, name: Name, token: Token) -> Next
+pub fn bound(
+    alloc: Global,
+    block: Boxed<Block>,
+    is_variable: bool,
+    name: Name,
+    token: Token,
+) -> Next
     ensures { result ≡ spec.bound block is_variable name token }
 {
     match token {
@@ -148,11 +160,11 @@ pub fn bound(alloc: Global, block: Block, is_variable: bool, name: Name, token: 
 
 /// Where only the end of the body may follow.
 #[tactic(auto, unfolding(crate::specs::Machine::closing))]
-pub fn closing(block: Block, token: Token) -> Next
-    ensures { result ≡ spec.closing block token }
+pub fn closing(alloc: Global, block: Boxed<Block>, token: Token) -> Result<Next, AllocError>
+    ensures { IfOk result (λ next. next ≡ spec.closing block token) }
 {
     match token {
-        Token::Mark(Mark::CloseBlock) => ended(block),
-        token => stuck((block, token)),
+        Token::Mark(Mark::CloseBlock) => ended(alloc, block),
+        token => Ok(stuck((block, token))),
     }
 }

@@ -1,4 +1,5 @@
 //! What the reader of declarations holds between two tokens.
+use crate::head::{OpenHead, WholeHead};
 use crate::test_state::TestState;
 use sqlite_items::Items;
 use vx_bodies::State;
@@ -48,7 +49,7 @@ pub struct Head {
 /// The message that a method answers, with the formals before the one that is read. An operator has two.
 #[derive(Drop)]
 pub enum Message {
-    Named(Head),
+    Named(OpenHead),
     /// No formal is read yet.
     Sign(Operator),
     /// The first formal is read: its name and its specialiser.
@@ -75,7 +76,7 @@ pub enum MethodState {
     /// A formal and its specialiser are read.
     Specialised(Message, Option<Name>, Name),
     /// `method name ( .. )`
-    Formed(Head),
+    Formed(WholeHead),
 }
 
 /// What is read of a declaration.
@@ -103,7 +104,7 @@ pub enum DeclState {
     Field(bool, FieldState),
     Method(MethodState),
     /// A method whose body is open.
-    Body(Head, State),
+    Body(WholeHead, State),
     /// A declaration that nothing can go on with.
     Whole(Decl),
 }

@@ -5,17 +5,27 @@ ghost use Rattle.vx_bodies.specs.Machine.{IsSmall, step};
 ghost use Rattle.vx_phrases.specs.TestMachine.{test_step, test_finished};
 ghost use Rattle.vx_phrases.specs.DeclMachine as spec;
 
-use crate::decl_state::{DeclState, FieldState, Head, MethodState, NamesState};
+use crate::decl_state::{DeclState, FieldState, MethodState, NamesState};
 use crate::field_steps::field;
+use crate::head::WholeHead;
 use crate::method_steps::method;
 use crate::test_state::TestState;
 use crate::test_steps::{test_begun, test_finished, test_may_end, test_step};
-use crate::words::{any_name, method_key};
+use crate::words::any_name;
 use sqlite_items::Items;
 use std::alloc::{AllocError, Global};
 use vx_bodies::{Next, State};
 use vx_names::Name;
-use vx_syntax::{Body, Decl, Keyword, Mark, Start, Test, Token};
+use vx_syntax::{Decl, Keyword, Mark, Start, Test, Token};
+
+// Lets go of what was read, at a token with which no declaration goes on. A function of its own, since a function pays at
+// each call for what it may let go of.
+fn stopped<T: Drop>(read: T) -> Option<DeclState>
+    ensures { result ≡ None }
+{
+    drop(read);
+    None
+}
 
 fn decl_begins(token: Token) -> Option<DeclState>
     ensures { result ≡ spec.decl_begins token }
@@ -183,34 +193,19 @@ fn var(token: Token) -> Option<DeclState>
     }
 }
 
-fn method_with(head: Head, body: Body) -> Result<Decl, AllocError>
-    ensures { IfOk result (λ decl. decl ≡ spec.method_with head body.0) }
-{
-    let Head {
-        name,
-        formals,
-        specialisers,
-    } = head;
-    let key = method_key(name, specialisers)?;
-    Ok(Decl::Method { key, formals, body })
-}
-
-fn in_body(head: Head, next: Next) -> Result<Option<DeclState>, AllocError>
-    ensures { IfOk result (λ state. state ≡ spec.in_body head next) }
+fn in_body(head: WholeHead, next: Next) -> Option<DeclState>
+    ensures { result ≡ spec.in_body head next }
 {
     match next {
-        Next::On(state) => Ok(Some(DeclState::Body(head, state))),
-        Next::Done(body) => Ok(Some(DeclState::Whole(method_with(head, body)?))),
-        Next::Stuck => {
-            drop(head);
-            Ok(None)
-        }
+        Next::On(state) => Some(DeclState::Body(head, state)),
+        Next::Done(body) => Some(DeclState::Whole(head.method(body))),
+        Next::Stuck => stopped(head),
     }
 }
 
 fn body(
     alloc: Global,
-    head: Head,
+    head: WholeHead,
     state: State,
     token: Token,
 ) -> Result<Option<DeclState>, AllocError>
@@ -218,7 +213,7 @@ fn body(
     ensures { IfOk result (λ next. next ≡ spec.in_body head (step state token)) }
 {
     let next = vx_bodies::step(alloc, state, token)?;
-    in_body(head, next)
+    Ok(in_body(head, next))
 }
 
 /// The state before the first token of a declaration.
@@ -239,6 +234,19 @@ pub fn decl_step(
     ensures { IfOk result (λ next. next ≡ spec.decl_step state token) }
 {
     match state {
+        // First, since most tokens stand in bodies, and a function pays at each call for the room of all its arms.
+        DeclState::Body(head, state) => body(alloc, head, state, token),
+        state => stepped(alloc, state, token),
+    }
+}
+
+// The same, whatever the state is.
+#[tactic(auto, unfolding(crate::specs::DeclMachine::decl_step))]
+fn stepped(alloc: Global, state: DeclState, token: Token) -> Result<Option<DeclState>, AllocError>
+    requires { IsSmall token }
+    ensures { IfOk result (λ next. next ≡ spec.decl_step state token) }
+{
+    match state {
         DeclState::Begun => Ok(decl_begins(token)),
         DeclState::Object => Ok(object(token)),
         DeclState::ObjectNamed(name) => Ok(object_named(alloc, name, token)),
@@ -253,10 +261,7 @@ pub fn decl_step(
         DeclState::Field(changeable, state) => Ok(field(changeable, state, token)),
         DeclState::Method(state) => method(alloc, state, token),
         DeclState::Body(head, state) => body(alloc, head, state, token),
-        DeclState::Whole(decl) => {
-            drop(decl);
-            Ok(None)
-        }
+        DeclState::Whole(decl) => Ok(stopped(decl)),
     }
 }
 

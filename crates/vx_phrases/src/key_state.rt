@@ -1,11 +1,11 @@
 //! What the reader of keys holds between two tokens.
-use sqlite_items::Items;
+use vx_bodies::Arguments;
 use vx_names::{DeclKey, FieldKey, Name, Operator};
 
 /// The message of a method's key, with the specialisers before the one that is read. An operator has two.
 #[derive(Drop)]
 pub enum KeyMessage {
-    Named(Name, Items<Name>),
+    Named(Name, Arguments<Name>),
     /// No specialiser is read yet.
     Sign(Operator),
     /// The first specialiser is read.

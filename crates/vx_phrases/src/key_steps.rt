@@ -1,16 +1,15 @@
 //! One token of a key.
-ghost use Rattle.std.specs.Prelude.{◌≡◌, [], Some, IfOk, is_some};
+ghost use Rattle.std.specs.Prelude.{◌≡◌, ◌≤◌, [], length, Some, IfOk, is_some};
+ghost use Rattle.vx_syntax.specs.Expressions.{max_arguments};
 ghost use Rattle.vx_phrases.specs.KeyMachine as spec;
 
 use crate::key_state::{KeyMessage, KeyState};
-use crate::words::{is_short, method_key, two};
+use crate::words::{is_short, two};
 use sqlite_items::Items;
 use std::alloc::{AllocError, Global};
-use vx_names::{DeclKey, FieldKey, Name, Operator, name_of};
-use vx_syntax::{Keyword, Mark, Token};
-
-/// The most specialisers that a name may have.
-const MAX_SPECIALISERS: usize = 8;
+use vx_bodies::Arguments;
+use vx_names::{DeclKey, FieldKey, Name, Operator};
+use vx_syntax::{Keyword, Mark, Token, method_key};
 
 fn key_begins(token: Token) -> Option<KeyState>
     ensures { result ≡ spec.key_begins token }
@@ -125,19 +124,20 @@ fn method_sign(operator: Operator, token: Token) -> Option<KeyState>
     }
 }
 
-fn method_whole(name: Name, specialisers: Items<Name>) -> Result<KeyState, AllocError>
-    ensures { IfOk result (λ next. next ≡ spec.method_whole name specialisers) }
+fn method_whole(name: Name, specialisers: Items<Name>) -> KeyState
+    requires { length specialisers ≤ max_arguments }
+    ensures { result ≡ spec.method_whole name specialisers }
 {
-    Ok(KeyState::Whole(DeclKey::Method(method_key(name, specialisers)?)))
+    KeyState::Whole(DeclKey::Method(method_key(name, specialisers)))
 }
 
-fn method_open(alloc: Global, name: Name, token: Token) -> Result<Option<KeyState>, AllocError>
-    ensures { IfOk result (λ next. next ≡ spec.method_open name token) }
+fn method_open(alloc: Global, name: Name, token: Token) -> Option<KeyState>
+    ensures { result ≡ spec.method_open name token }
 {
     match token {
-        Token::Mark(Mark::Close) => Ok(Some(method_whole(name, Items::new(alloc))?)),
-        Token::Mark(Mark::At) => Ok(Some(KeyState::At(KeyMessage::Named(name, Items::new(alloc))))),
-        _ => Ok(None),
+        Token::Mark(Mark::Close) => Some(method_whole(name, Items::new(alloc))),
+        Token::Mark(Mark::At) => Some(KeyState::At(KeyMessage::Named(name, Arguments::new(alloc)))),
+        _ => None,
     }
 }
 
@@ -165,12 +165,10 @@ fn at(message: KeyMessage, token: Token) -> Option<KeyState>
     }
 }
 
-fn with_last_of_name(name: Name, given: Items<Name>, last: Name) -> Result<KeyState, AllocError>
+fn with_last_of_name(name: Name, given: Arguments<Name>, last: Name) -> Result<KeyState, AllocError>
     ensures { IfOk result (λ next. Some next ≡ spec.with_last (KeyMessage.Named name given) last) }
 {
-    let mut given = given;
-    given.push(last)?;
-    method_whole(name, given)
+    Ok(method_whole(name, given.with_last(last)?))
 }
 
 fn with_last_of_two(
@@ -181,8 +179,8 @@ fn with_last_of_two(
 ) -> Result<KeyState, AllocError>
     ensures { IfOk result (λ next. Some next ≡ spec.with_last (KeyMessage.Half operator first) last) }
 {
-    let name = name_of(alloc, operator.bytes())?;
-    method_whole(name, two(alloc, first, last)?)
+    let name = operator.name(alloc)?;
+    Ok(method_whole(name, two(alloc, first, last)?))
 }
 
 fn with_last(alloc: Global, message: KeyMessage, last: Name) -> Result<Option<KeyState>, AllocError>
@@ -199,17 +197,16 @@ fn with_last(alloc: Global, message: KeyMessage, last: Name) -> Result<Option<Ke
 
 fn with_next_of_name(
     name: Name,
-    given: Items<Name>,
+    given: Arguments<Name>,
     next: Name,
 ) -> Result<Option<KeyMessage>, AllocError>
     ensures { IfOk result (λ message. message ≡ spec.with_next (KeyMessage.Named name given) next) }
 {
-    if given.len() >= MAX_SPECIALISERS - 1 {
-        return Ok(None);
+    if given.may_go_on() {
+        Ok(Some(KeyMessage::Named(name, given.with(next)?)))
+    } else {
+        Ok(None)
     }
-    let mut given = given;
-    given.push(next)?;
-    Ok(Some(KeyMessage::Named(name, given)))
 }
 
 fn with_next(message: KeyMessage, next: Name) -> Result<Option<KeyMessage>, AllocError>
@@ -280,7 +277,7 @@ pub fn key_step(
         KeyState::Method => Ok(method(token)),
         KeyState::MethodNamed(name) => Ok(method_named(name, token)),
         KeyState::MethodSign(operator) => Ok(method_sign(operator, token)),
-        KeyState::MethodOpen(name) => method_open(alloc, name, token),
+        KeyState::MethodOpen(name) => Ok(method_open(alloc, name, token)),
         KeyState::Specialiser(message) => Ok(specialiser(message, token)),
         KeyState::At(message) => Ok(at(message, token)),
         KeyState::Specialised(message, name) => specialised(alloc, message, name, token),

@@ -4,6 +4,7 @@
 mod decl_state;
 mod decl_steps;
 mod field_steps;
+mod head;
 mod key_state;
 mod key_steps;
 mod laws;
@@ -14,6 +15,7 @@ mod words;
 
 pub use decl_state::{DeclState, FieldState, Head, Message, MethodState, NamesState};
 pub use decl_steps::{decl_begun, decl_finished, decl_may_end, decl_step};
+pub use head::{OpenHead, WholeHead};
 pub use key_state::{KeyMessage, KeyState};
 pub use key_steps::{key_begun, key_finished, key_is_whole, key_step};
 pub use laws::{

@@ -5,16 +5,13 @@ ghost use Rattle.vx_syntax.specs.Declarations.{any, named};
 ghost use Rattle.vx_phrases.specs.DeclMachine as spec;
 ghost use Rattle.vx_phrases.specs.DeclMachine.{given};
 
-use crate::decl_state::{DeclState, Head, Message, MethodState};
-use crate::words::{any_name, two};
-use sqlite_items::Items;
+use crate::decl_state::{DeclState, Message, MethodState};
+use crate::head::{NewFormal, OpenHead, WholeHead};
+use crate::words::any_name;
 use std::alloc::{AllocError, Global};
 use vx_bodies::begin;
-use vx_names::{Name, Operator, name_of};
+use vx_names::{Name, Operator};
 use vx_syntax::{Mark, Token};
-
-/// The most formals that a name may have.
-const MAX_FORMALS: usize = 8;
 
 fn is_formal(formals: &[Option<Name>], name: &Name) -> bool
     ensures { result ≡ is_among (named formals.now) name.now }
@@ -33,79 +30,26 @@ fn has_formal(message: &Message, name: &Name) -> bool
     ensures { result ≡ is_among (named (given message.now)) name.now }
 {
     match message {
-        Message::Named(head) => is_formal(head.formals.as_slice(), name),
+        Message::Named(head) => is_formal(head.formals(), name),
         Message::Sign(_) => false,
         Message::Half(_, Some(first), _) => first.bytes() == name.bytes(),
         Message::Half(_, None, _) => false,
     }
 }
 
-fn with_formal(head: Head, formal: Option<Name>, specialiser: Name) -> Result<Head, AllocError>
-    ensures { IfOk result (λ more. more ≡ spec.with_formal head formal specialiser) }
-{
-    let Head {
-        name,
-        mut formals,
-        mut specialisers,
-    } = head;
-    formals.push(formal)?;
-    specialisers.push(specialiser)?;
-    Ok(Head {
-        name,
-        formals,
-        specialisers,
-    })
-}
-
-fn two_formals(
+fn with_last(
     alloc: Global,
-    first: Option<Name>,
-    second: Option<Name>,
-) -> Result<Items<Option<Name>>, AllocError>
-    ensures { IfOk result (λ formals. formals ≡ first ∷ second ∷ []) }
-{
-    let mut formals = Items::new(alloc);
-    formals.push(first)?;
-    formals.push(second)?;
-    Ok(formals)
-}
-
-/// A formal and its specialiser.
-#[derive(Drop)]
-struct NewFormal {
-    name: Option<Name>,
-    specialiser: Name,
-}
-
-fn with_second(
-    alloc: Global,
-    operator: Operator,
-    first: NewFormal,
-    second: NewFormal,
-) -> Result<Head, AllocError>
-    ensures { IfOk result (λ head. Some head ≡ spec.with_last (Message.Half operator first.name first.specialiser) second.name second.specialiser) }
-{
-    let name = name_of(alloc, operator.bytes())?;
-    let formals = two_formals(alloc, first.name, second.name)?;
-    let specialisers = two(alloc, first.specialiser, second.specialiser)?;
-    Ok(Head {
-        name,
-        formals,
-        specialisers,
-    })
-}
-
-fn with_last(alloc: Global, message: Message, last: NewFormal) -> Result<Option<Head>, AllocError>
+    message: Message,
+    last: NewFormal,
+) -> Result<Option<WholeHead>, AllocError>
     ensures { IfOk result (λ head. head ≡ spec.with_last message last.name last.specialiser) }
 {
     match message {
-        Message::Named(head) => Ok(Some(with_formal(head, last.name, last.specialiser)?)),
-        Message::Half(operator, name, specialiser) => Ok(Some(with_second(
-            alloc,
-            operator,
-            NewFormal { name, specialiser },
-            last,
-        )?)),
+        Message::Named(head) => Ok(Some(head.with_last(alloc, last)?)),
+        Message::Half(operator, name, specialiser) => {
+            let first = NewFormal { name, specialiser };
+            Ok(Some(WholeHead::of_two(alloc, operator, first, last)?))
+        }
         Message::Sign(_) => {
             drop(last);
             Ok(None)
@@ -113,15 +57,15 @@ fn with_last(alloc: Global, message: Message, last: NewFormal) -> Result<Option<
     }
 }
 
-fn with_next_of_name(head: Head, next: NewFormal) -> Result<Option<Message>, AllocError>
+fn with_next_of_name(head: OpenHead, next: NewFormal) -> Result<Option<Message>, AllocError>
     ensures { IfOk result (λ message. message ≡ spec.with_next (Message.Named head) next.name next.specialiser) }
 {
-    if head.formals.len() >= MAX_FORMALS - 1 {
-        drop(head);
-        drop(next);
-        return Ok(None);
+    if head.may_go_on() {
+        Ok(Some(Message::Named(head.with(next)?)))
+    } else {
+        drop((head, next));
+        Ok(None)
     }
-    Ok(Some(Message::Named(with_formal(head, next.name, next.specialiser)?)))
 }
 
 fn with_next(message: Message, next: NewFormal) -> Result<Option<Message>, AllocError>
@@ -139,7 +83,7 @@ fn with_next(message: Message, next: NewFormal) -> Result<Option<Message>, Alloc
     }
 }
 
-fn formed(head: Option<Head>) -> Option<DeclState>
+fn formed(head: Option<WholeHead>) -> Option<DeclState>
     ensures { result ≡ spec.formed head }
 {
     match head {
@@ -234,24 +178,12 @@ fn formal(message: Message, token: Token) -> Option<DeclState>
     }
 }
 
-fn head_of(alloc: Global, name: Name) -> Head
-    ensures { result ≡ spec.head_of name }
-{
-    Head {
-        name,
-        formals: Items::new(alloc),
-        specialisers: Items::new(alloc),
-    }
-}
-
-fn first_formal(alloc: Global, name: Name, token: Token) -> Option<DeclState>
-    ensures { result ≡ spec.first_formal name token }
+fn first_formal(alloc: Global, name: Name, token: Token) -> Result<Option<DeclState>, AllocError>
+    ensures { IfOk result (λ next. next ≡ spec.first_formal name token) }
 {
     match token {
-        Token::Mark(Mark::Close) => Some(DeclState::Method(MethodState::Formed(head_of(
-            alloc, name,
-        )))),
-        token => formal(Message::Named(head_of(alloc, name)), token),
+        Token::Mark(Mark::Close) => Ok(formed(Some(WholeHead::plain(alloc, name)?))),
+        token => Ok(formal(Message::Named(OpenHead::new(alloc, name)), token)),
     }
 }
 
@@ -302,14 +234,14 @@ fn at(message: Message, name: Option<Name>, token: Token) -> Option<DeclState>
     }
 }
 
-fn opened(alloc: Global, head: Head) -> Result<DeclState, AllocError>
+fn opened(alloc: Global, head: WholeHead) -> Result<DeclState, AllocError>
     ensures { IfOk result (λ next. Some next ≡ spec.method (MethodState.Formed head) (Token.Mark Mark.OpenBlock)) }
 {
-    let state = begin(alloc, head.formals.as_slice())?;
+    let state = begin(alloc, head.formals())?;
     Ok(DeclState::Body(head, state))
 }
 
-fn whole_head(alloc: Global, head: Head, token: Token) -> Result<Option<DeclState>, AllocError>
+fn whole_head(alloc: Global, head: WholeHead, token: Token) -> Result<Option<DeclState>, AllocError>
     ensures { IfOk result (λ next. next ≡ spec.method (MethodState.Formed head) token) }
 {
     match token {
@@ -333,7 +265,7 @@ pub fn method(
         MethodState::Begun => Ok(begun(token)),
         MethodState::Named(name) => Ok(named(name, token)),
         MethodState::Sign(operator) => Ok(sign(operator, token)),
-        MethodState::Open(name) => Ok(first_formal(alloc, name, token)),
+        MethodState::Open(name) => first_formal(alloc, name, token),
         MethodState::Formal(message) => Ok(formal(message, token)),
         MethodState::FormalNamed(message, name) => formal_named(alloc, message, name, token),
         MethodState::At(message, name) => Ok(at(message, name, token)),

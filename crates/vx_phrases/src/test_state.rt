@@ -1,4 +1,5 @@
 //! What the reader of tests holds between two tokens.
+use sqlite_items::Boxed;
 use vx_bodies::Stack;
 use vx_names::Name;
 use vx_syntax::{Compare, Test};
@@ -7,9 +8,9 @@ use vx_syntax::{Compare, Test};
 #[derive(Drop)]
 pub struct Pending {
     /// The test before the `or`.
-    pub either: Option<Test>,
+    pub either: Option<Boxed<Test>>,
     /// The test before the `and`, which ends after the `or`.
-    pub both: Option<Test>,
+    pub both: Option<Boxed<Test>>,
     /// How many `not`s stand before what is awaited.
     pub nots: u64,
 }
@@ -26,5 +27,5 @@ pub enum TestState {
     /// These and a minus sign are read.
     Signed(Pending, Stack<Pending>, Name, Compare),
     /// The test before the `or`, where there is one, and the comparisons after it are read.
-    Joined(Option<Test>, Stack<Pending>, Test),
+    Joined(Option<Boxed<Test>>, Stack<Pending>, Test),
 }

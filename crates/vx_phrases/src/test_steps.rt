@@ -11,7 +11,7 @@ use sqlite_items::Boxed;
 use std::alloc::{AllocError, Global};
 use vx_bodies::Stack;
 use vx_names::{Name, Operator};
-use vx_syntax::{Compare, Mark, Test, Token};
+use vx_syntax::{Compare, Mark, Test, Token, is_joining};
 
 fn comparison(operator: Operator) -> Option<Compare>
     ensures { result ≡ comparison operator }
@@ -29,11 +29,7 @@ fn comparison(operator: Operator) -> Option<Compare>
 fn is_field(name: &Name) -> bool
     ensures { result ≡ spec.is_field name.now }
 {
-    let bytes = name.bytes();
-    let joins = bytes == b"and".as_slice()
-        || bytes == b"or".as_slice()
-        || bytes == b"not".as_slice();
-    !joins && is_short(name)
+    !is_joining(name) && is_short(name)
 }
 
 fn nothing_pending() -> Pending
@@ -58,26 +54,24 @@ fn negated(alloc: Global, nots: u64, test: Test) -> Result<Test, AllocError>
     Ok(negated)
 }
 
-fn both(alloc: Global, before: Option<Test>, test: Test) -> Result<Test, AllocError>
+fn both(alloc: Global, before: Option<Boxed<Test>>, test: Test) -> Result<Test, AllocError>
     ensures { IfOk result (λ t. t ≡ spec.both before test) }
 {
     match before {
         None => Ok(test),
         Some(before) => {
-            let before = Boxed::new(alloc, before)?;
             let test = Boxed::new(alloc, test)?;
             Ok(Test::And(before, test))
         }
     }
 }
 
-fn either(alloc: Global, before: Option<Test>, test: Test) -> Result<Test, AllocError>
+fn either(alloc: Global, before: Option<Boxed<Test>>, test: Test) -> Result<Test, AllocError>
     ensures { IfOk result (λ t. t ≡ spec.either before test) }
 {
     match before {
         None => Ok(test),
         Some(before) => {
-            let before = Boxed::new(alloc, before)?;
             let test = Boxed::new(alloc, test)?;
             Ok(Test::Or(before, test))
         }
@@ -102,6 +96,9 @@ fn operand_read(
     Ok(TestState::Joined(either, brackets, test))
 }
 
+// The count of `not`s never passes 64 bits, since a block has fewer tokens than that. This machine alone doesn't know it:
+// each contract from here up to the reader's loop would have to say how many tokens are read, and each state to keep it. So
+// a count that doesn't fit is answered as want of memory is.
 fn one_more_not(pending: Pending) -> Result<Pending, AllocError>
     ensures { IfOk result (λ p. p ≡ spec.one_more_not pending) }
 {
@@ -250,28 +247,34 @@ fn signed(
     }
 }
 
-fn and(before: Option<Test>, brackets: Stack<Pending>, test: Test) -> TestState
-    ensures { result ≡ TestState.Operand (record { either = before; both = Some test; nots = 0 }) brackets }
+fn and(
+    alloc: Global,
+    before: Option<Boxed<Test>>,
+    brackets: Stack<Pending>,
+    test: Test,
+) -> Result<TestState, AllocError>
+    ensures { IfOk result (λ next. next ≡ TestState.Operand (record { either = before; both = Some test; nots = 0 }) brackets) }
 {
-    TestState::Operand(
+    let test = Boxed::new(alloc, test)?;
+    Ok(TestState::Operand(
         Pending {
             either: before,
             both: Some(test),
             nots: 0,
         },
         brackets,
-    )
+    ))
 }
 
 fn or(
     alloc: Global,
-    before: Option<Test>,
+    before: Option<Boxed<Test>>,
     brackets: Stack<Pending>,
     test: Test,
 ) -> Result<TestState, AllocError>
     ensures { IfOk result (λ next. next ≡ TestState.Operand (record { either = Some (spec.either before test); both = None; nots = 0 }) brackets) }
 {
-    let test = either(alloc, before, test)?;
+    let test = Boxed::new(alloc, either(alloc, before, test)?)?;
     Ok(TestState::Operand(
         Pending {
             either: Some(test),
@@ -284,7 +287,7 @@ fn or(
 
 fn joining_word(
     alloc: Global,
-    before: Option<Test>,
+    before: Option<Boxed<Test>>,
     brackets: Stack<Pending>,
     test: Test,
     name: Name,
@@ -292,7 +295,7 @@ fn joining_word(
     ensures { IfOk result (λ next. next ≡ spec.joining_word before brackets test name) }
 {
     if name.bytes() == b"and".as_slice() {
-        Ok(Some(and(before, brackets, test)))
+        Ok(Some(and(alloc, before, brackets, test)?))
     } else if name.bytes() == b"or".as_slice() {
         Ok(Some(or(alloc, before, brackets, test)?))
     } else {
@@ -302,7 +305,7 @@ fn joining_word(
 
 fn closed(
     alloc: Global,
-    before: Option<Test>,
+    before: Option<Boxed<Test>>,
     mut brackets: Stack<Pending>,
     test: Test,
 ) -> Result<Option<TestState>, AllocError>
@@ -319,7 +322,7 @@ fn closed(
 
 fn joined(
     alloc: Global,
-    before: Option<Test>,
+    before: Option<Boxed<Test>>,
     brackets: Stack<Pending>,
     test: Test,
     token: Token,
@@ -373,7 +376,7 @@ pub fn test_step(
 
 fn whole(
     alloc: Global,
-    before: Option<Test>,
+    before: Option<Boxed<Test>>,
     brackets: Stack<Pending>,
     test: Test,
 ) -> Result<Option<Test>, AllocError>

@@ -1,11 +1,11 @@
 //! Names that are made, and tests of names.
 ghost use Rattle.std.specs.Prelude.{◌≡◌, [], ◌∷◌, IfOk, nat_le, length};
 ghost use Rattle.vx_syntax.specs.Expressions.{max_field_bytes};
-ghost use Rattle.vx_syntax.specs.Declarations.{any, method_key};
+ghost use Rattle.vx_syntax.specs.Declarations.{any};
 
 use sqlite_items::Items;
 use std::alloc::{AllocError, Global};
-use vx_names::{FIELD_NAME_BYTES, MethodKey, Name, Selector, name_of};
+use vx_names::{FIELD_NAME_BYTES, Name, name_of};
 
 /// Whether a field may have the name.
 pub fn is_short(name: &Name) -> bool
@@ -29,22 +29,4 @@ pub fn two(alloc: Global, first: Name, second: Name) -> Result<Items<Name>, Allo
     names.push(first)?;
     names.push(second)?;
     Ok(names)
-}
-
-/// The key of a method with these specialisers, of which the grammar allows fewer than a byte counts.
-pub fn method_key(name: Name, specialisers: Items<Name>) -> Result<MethodKey, AllocError>
-    ensures { IfOk result (λ key. key ≡ method_key name specialisers) }
-{
-    let count = specialisers.len();
-    if count > 255 {
-        return Err(AllocError);
-    }
-    let selector = Selector {
-        name,
-        arity: count as u8,
-    };
-    Ok(MethodKey {
-        selector,
-        specialisers,
-    })
 }

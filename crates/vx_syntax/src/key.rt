@@ -1,12 +1,15 @@
 //! The keys of declarations, and their texts.
 
-ghost use Rattle.std.specs.Prelude.{◌≡◌, ◌++◌, [], map, codes, IfOk, OnOk};
+ghost use Rattle.std.specs.Prelude.{◌≡◌, ◌≤◌, ◌++◌, [], length, map, codes, IfOk, OnOk};
+ghost use Rattle.vx_syntax.specs.Declarations.{method_key};
+ghost use Rattle.vx_syntax.specs.Expressions.{max_arguments};
 ghost use Rattle.vx_syntax.specs.Keys.{key_of};
 ghost use Rattle.vx_syntax.specs.Print.{key_text, field_key_text, selector_text, specialiser_text, joined};
 
 use crate::decl::Decl;
+use sqlite_items::Items;
 use std::alloc::{AllocError, Global};
-use vx_names::{DeclKey, FieldKey, Name, Selector};
+use vx_names::{DeclKey, FieldKey, MethodKey, Name, Selector};
 
 impl Decl {
     /// What the declaration is found by.
@@ -19,6 +22,18 @@ impl Decl {
             Decl::Field { key, .. } => Ok(DeclKey::Field(key.copy(alloc)?)),
             Decl::Method { key, .. } => Ok(DeclKey::Method(key.copy(alloc)?)),
         }
+    }
+}
+
+/// The key of a method with these specialisers, one for each of its arguments.
+pub fn method_key(name: Name, specialisers: Items<Name>) -> MethodKey
+    requires { length specialisers ≤ max_arguments }
+    ensures { result ≡ method_key name specialisers }
+{
+    let arity = specialisers.len() as u8;
+    MethodKey {
+        selector: Selector { name, arity },
+        specialisers,
     }
 }
 

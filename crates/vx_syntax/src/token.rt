@@ -1,7 +1,8 @@
-ghost use Rattle.std.specs.Prelude.{◌≡◌};
+ghost use Rattle.std.specs.Prelude.{◌≡◌, IfOk};
 ghost use Rattle.vx_syntax.specs.Words.{keyword, mark, is_printable};
 
 use sqlite_items::Items;
+use std::alloc::{AllocError, Global};
 use vx_names::{Name, Operator};
 
 /// The most bytes that a string holds.
@@ -86,30 +87,19 @@ impl Mark {
     pub fn from_bytes(bytes: &[u8]) -> Option<Mark>
         ensures { result ≡ mark bytes.now }
     {
-        if bytes == b"(".as_slice() {
-            Some(Mark::Open)
-        } else if bytes == b")".as_slice() {
-            Some(Mark::Close)
-        } else if bytes == b"{".as_slice() {
-            Some(Mark::OpenBlock)
-        } else if bytes == b"}".as_slice() {
-            Some(Mark::CloseBlock)
-        } else if bytes == b",".as_slice() {
-            Some(Mark::Comma)
-        } else if bytes == b";".as_slice() {
-            Some(Mark::Semicolon)
-        } else if bytes == b"@".as_slice() {
-            Some(Mark::At)
-        } else if bytes == b"&".as_slice() {
-            Some(Mark::Ampersand)
-        } else if bytes == b"^".as_slice() {
-            Some(Mark::Caret)
-        } else if bytes == b":=".as_slice() {
-            Some(Mark::Becomes)
-        } else if bytes == b"...".as_slice() {
-            Some(Mark::Dots)
-        } else {
-            None
+        match bytes {
+            b"(" => Some(Mark::Open),
+            b")" => Some(Mark::Close),
+            b"{" => Some(Mark::OpenBlock),
+            b"}" => Some(Mark::CloseBlock),
+            b"," => Some(Mark::Comma),
+            b";" => Some(Mark::Semicolon),
+            b"@" => Some(Mark::At),
+            b"&" => Some(Mark::Ampersand),
+            b"^" => Some(Mark::Caret),
+            b":=" => Some(Mark::Becomes),
+            b"..." => Some(Mark::Dots),
+            _ => None,
         }
     }
 }
@@ -128,4 +118,20 @@ pub enum Token {
     Mark(Mark),
     /// Bytes with which no command goes on.
     Bad,
+}
+
+impl Token {
+    pub fn copy(&self, alloc: Global) -> Result<Token, AllocError>
+        ensures { IfOk result (λ token. token ≡ self.now) }
+    {
+        match self {
+            Token::Word(name) => Ok(Token::Word(name.copy(alloc)?)),
+            Token::Keyword(keyword) => Ok(Token::Keyword(*keyword)),
+            Token::Number(n) => Ok(Token::Number(*n)),
+            Token::Text(bytes) => Ok(Token::Text(Items::from_slice(alloc, bytes.as_slice())?)),
+            Token::Operator(operator) => Ok(Token::Operator(*operator)),
+            Token::Mark(mark) => Ok(Token::Mark(*mark)),
+            Token::Bad => Ok(Token::Bad),
+        }
+    }
 }
