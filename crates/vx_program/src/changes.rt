@@ -1,9 +1,14 @@
-//! Changes of a list of declarations, one by one. A list that a change refuses is let go, since then the whole edit is refused.
-ghost use Rattle.std.specs.Prelude.{◌≡◌, Ok, IfOk, IfErr};
+//! Changes of a list of declarations, one by one.
+ghost use Rattle.std.specs.Prelude.{◌≡◌, ◌<◌, List, length, set, None, Ok, Err, IfOk, IfErr, OnOk, OnErr};
+ghost use Rattle.vx_syntax.specs.declared.decl.Decl.{Decl};
+ghost use Rattle.vx_program.specs.declared.edit.Change.{Change};
 ghost use Rattle.vx_program.specs.declared.edit.Change.TheVariants.{Add, Put, Drop};
-ghost use Rattle.vx_program.specs.Program.{IsProgram};
-ghost use Rattle.vx_program.specs.Apply.{with_decl, replaced, without, changed, IsFaultOf};
-ghost use Rattle.vx_program.specs.Lookups.{before_add, before_put, named_fault, before_drop};
+ghost use Rattle.vx_program.specs.declared.edit.EditFault.TheVariants.{OutOfMemory};
+ghost use Rattle.vx_syntax.specs.Keys.{key_of};
+ghost use Rattle.vx_program.specs.Program.{IsOrdered, IsProgram};
+ghost use Rattle.vx_program.specs.Apply.{apply, changed, IsFaultOf, IsChangeWritten};
+ghost use Rattle.vx_syntax.specs.Written.{IsDeclWritten};
+ghost use Rattle.vx_program.specs.Lookups.{IsFound, IsFoundOrNot, IsPlaceOf, before_add, before_put, named_fault, before_drop};
 
 use crate::counts::limit_fault;
 use crate::edit::{Change, EditFault};
@@ -11,49 +16,70 @@ use crate::faults::{
     cycle_fault, exists_fault, gained, in_use_fault, missing_fault, reserved_fault, unknown_fault,
     wrong_kind_fault,
 };
-use crate::lookup::{find, mentioned, place_of, position};
+use crate::key::Sought;
+use crate::lookup::mentioned;
 use crate::occupied::occupied;
 use crate::reserved::Reserved;
+use crate::search::{find, place_of, position};
 use std::alloc::{AllocError, Global};
 use vx_names::DeclKey;
 use vx_syntax::Decl;
 
-/// The declarations after the change.
-pub fn changed(
+/// An edit is refused for a fault that it has: want of memory, which changes answer too, is none of them.
+#[tactic(auto, using(crate::proofs::Refusals::never_memory))]
+pub fn refusals_are_faults()
+    ensures { (program : List Decl) (changes : List Change) → apply program changes ≡ Err OutOfMemory → ⊥ }
+{}
+
+/// Makes the change. Where it is refused and where memory runs out, the declarations stay as they were.
+pub fn change(
     alloc: Global,
     reserved: &Reserved,
-    decls: Vec<Decl>,
+    decls: &mut Vec<Decl>,
     change: &Change,
-) -> Result<Vec<Decl>, EditFault>
-    requires { IsProgram decls.items }
-    ensures ok { IfOk result (λ next. changed decls.items change.now ≡ Ok next.items) }
-    ensures fault { IfErr result (IsFaultOf (changed decls.items change.now)) }
+) -> Result<(), EditFault>
+    requires { IsProgram decls.old.items × IsChangeWritten change.now }
+    ensures ok { OnOk result (changed decls.old.items change.now ≡ Ok decls.new.items) }
+    ensures fault { IfErr result (IsFaultOf (changed decls.old.items change.now)) }
+    ensures unchanged { OnErr result (decls.new.items ≡ decls.old.items) }
 {
     match change {
-        Change::Add(decl) => added(alloc, reserved, decls, decl),
+        Change::Add(decl) => add(alloc, reserved, decls, decl),
         Change::Put(decl) => put(alloc, reserved, decls, decl),
-        Change::Drop(key) => dropped(alloc, reserved, decls, key),
+        Change::Drop(key) => remove(alloc, reserved, decls, key),
     }
 }
 
-#[tactic(auto, using(crate::proofs::Orders::add_refused, crate::proofs::Orders::add_limited, crate::proofs::Orders::add_made))]
-fn added(
+fn add(
     alloc: Global,
     reserved: &Reserved,
-    decls: Vec<Decl>,
+    decls: &mut Vec<Decl>,
     decl: &Decl,
-) -> Result<Vec<Decl>, EditFault>
-    ensures ok { IfOk result (λ next. changed decls.items (Add decl.now) ≡ Ok next.items) }
-    ensures fault { IfErr result (IsFaultOf (changed decls.items (Add decl.now))) }
+) -> Result<(), EditFault>
+    requires { IsProgram decls.old.items × IsDeclWritten decl.now }
+    ensures ok { OnOk result (changed decls.old.items (Add decl.now) ≡ Ok decls.new.items) }
+    ensures fault { IfErr result (IsFaultOf (changed decls.old.items (Add decl.now))) }
+    ensures unchanged { OnErr result (decls.new.items ≡ decls.old.items) }
 {
-    if let Some(fault) = before_add(alloc, reserved, decls.as_slice(), decl)? {
+    let all = decls.as_slice();
+    if let Some(fault) = before_add(alloc, reserved, all, decl)? {
         return Err(fault);
     }
-    let next = with_decl(alloc, decls, decl)?;
-    if let Some(fault) = limit_fault(alloc, reserved, next.as_slice(), decl)? {
+    let place = place_for(alloc, all, decl)?;
+    if let Some(fault) = limit_fault(alloc, reserved, &all[..place], decl, &all[place..])? {
         return Err(fault);
     }
-    Ok(next)
+    decls.insert(place, decl.copy(alloc)?)?;
+    Ok(())
+}
+
+// Where a declaration of the key would stand.
+fn place_for(alloc: Global, decls: &[Decl], decl: &Decl) -> Result<usize, AllocError>
+    requires { IsOrdered decls.now }
+    ensures { IfOk result (IsPlaceOf decls.now (key_of decl.now)) }
+{
+    let key = decl.key(alloc)?;
+    Ok(place_of(decls, &Sought::Key(&key)))
 }
 
 // The fault of an addition, besides those of limits.
@@ -63,6 +89,7 @@ fn before_add(
     decls: &[Decl],
     decl: &Decl,
 ) -> Result<Option<EditFault>, AllocError>
+    requires { IsProgram decls.now × IsDeclWritten decl.now }
     ensures { IfOk result (λ fault. fault ≡ before_add decls.now decl.now) }
 {
     let key = decl.key(alloc)?;
@@ -79,35 +106,63 @@ fn before_add(
     wrong_kind_fault(alloc, reserved, decls, decl, mentioned(decl))
 }
 
-fn with_decl(alloc: Global, decls: Vec<Decl>, decl: &Decl) -> Result<Vec<Decl>, AllocError>
-    ensures { IfOk result (λ next. next.items ≡ with_decl decls.items decl.now) }
-{
-    let mut decls = decls;
-    let key = decl.key(alloc)?;
-    let place = place_of(decls.as_slice(), &key);
-    decls.insert(place, decl.copy(alloc)?)?;
-    Ok(decls)
-}
-
-#[tactic(auto, using(crate::proofs::Orders::put_refused, crate::proofs::Orders::put_limited, crate::proofs::Orders::put_made))]
 fn put(
     alloc: Global,
     reserved: &Reserved,
-    decls: Vec<Decl>,
+    decls: &mut Vec<Decl>,
     decl: &Decl,
-) -> Result<Vec<Decl>, EditFault>
-    requires { IsProgram decls.items }
-    ensures ok { IfOk result (λ next. changed decls.items (Put decl.now) ≡ Ok next.items) }
-    ensures fault { IfErr result (IsFaultOf (changed decls.items (Put decl.now))) }
+) -> Result<(), EditFault>
+    requires { IsProgram decls.old.items × IsDeclWritten decl.now }
+    ensures ok { OnOk result (changed decls.old.items (Put decl.now) ≡ Ok decls.new.items) }
+    ensures fault { IfErr result (IsFaultOf (changed decls.old.items (Put decl.now))) }
+    ensures unchanged { OnErr result (decls.new.items ≡ decls.old.items) }
 {
     if let Some(fault) = before_put(alloc, reserved, decls.as_slice(), decl)? {
         return Err(fault);
     }
-    let next = replaced(alloc, decls, decl)?;
-    if let Some(fault) = limit_fault(alloc, reserved, next.as_slice(), decl)? {
+    match position_of(alloc, decls.as_slice(), decl)? {
+        Some(place) => put_at(alloc, reserved, decls, place, decl),
+        None => Err(EditFault::Missing(decl.key(alloc)?)),
+    }
+}
+
+fn put_at(
+    alloc: Global,
+    reserved: &Reserved,
+    decls: &mut Vec<Decl>,
+    place: usize,
+    decl: &Decl,
+) -> Result<(), EditFault>
+    requires program { IsProgram decls.old.items }
+    requires written { IsDeclWritten decl.now }
+    requires found { IsFound decls.old.items (key_of decl.now) place }
+    requires clean { before_put decls.old.items decl.now ≡ None }
+    ensures ok { OnOk result (changed decls.old.items (Put decl.now) ≡ Ok decls.new.items) }
+    ensures fault { IfErr result (IsFaultOf (changed decls.old.items (Put decl.now))) }
+    ensures unchanged { OnErr result (decls.new.items ≡ decls.old.items) }
+{
+    let all = decls.as_slice();
+    if let Some(fault) = limit_fault(alloc, reserved, &all[..place], decl, &all[place + 1..])? {
         return Err(fault);
     }
-    Ok(next)
+    replace(decls, place, decl.copy(alloc)?);
+    Ok(())
+}
+
+fn replace(decls: &mut Vec<Decl>, place: usize, decl: Decl)
+    requires { place < length decls.old.items }
+    ensures { decls.new.items ≡ set decls.old.items place decl }
+{
+    decls[place] = decl;
+}
+
+// Where the declaration of the same key stands.
+fn position_of(alloc: Global, decls: &[Decl], decl: &Decl) -> Result<Option<usize>, AllocError>
+    requires { IsOrdered decls.now }
+    ensures { IfOk result (IsFoundOrNot decls.now (key_of decl.now)) }
+{
+    let key = decl.key(alloc)?;
+    Ok(position(decls, &key))
 }
 
 // The fault of a put, besides those of limits.
@@ -117,7 +172,7 @@ fn before_put(
     decls: &[Decl],
     decl: &Decl,
 ) -> Result<Option<EditFault>, AllocError>
-    requires { IsProgram decls.now }
+    requires { IsProgram decls.now × IsDeclWritten decl.now }
     ensures { IfOk result (λ fault. fault ≡ before_put decls.now decl.now) }
 {
     let key = decl.key(alloc)?;
@@ -153,31 +208,25 @@ fn named_fault(
     cycle_fault(alloc, decls, decl)
 }
 
-fn replaced(alloc: Global, decls: Vec<Decl>, decl: &Decl) -> Result<Vec<Decl>, AllocError>
-    ensures { IfOk result (λ next. next.items ≡ replaced decls.items decl.now) }
-{
-    let mut decls = decls;
-    let key = decl.key(alloc)?;
-    if let Some(place) = position(decls.as_slice(), &key) {
-        decls[place] = decl.copy(alloc)?;
-    }
-    Ok(decls)
-}
-
-#[tactic(auto, using(crate::proofs::Orders::drop_refused, crate::proofs::Orders::drop_made))]
-fn dropped(
+fn remove(
     alloc: Global,
     reserved: &Reserved,
-    decls: Vec<Decl>,
+    decls: &mut Vec<Decl>,
     key: &DeclKey,
-) -> Result<Vec<Decl>, EditFault>
-    ensures ok { IfOk result (λ next. changed decls.items (Drop key.now) ≡ Ok next.items) }
-    ensures fault { IfErr result (IsFaultOf (changed decls.items (Drop key.now))) }
+) -> Result<(), EditFault>
+    requires { IsProgram decls.old.items }
+    ensures ok { OnOk result (changed decls.old.items (Drop key.now) ≡ Ok decls.new.items) }
+    ensures fault { IfErr result (IsFaultOf (changed decls.old.items (Drop key.now))) }
+    ensures unchanged { OnErr result (decls.new.items ≡ decls.old.items) }
 {
     if let Some(fault) = before_drop(alloc, reserved, decls.as_slice(), key)? {
         return Err(fault);
     }
-    Ok(without(decls, key))
+    let Some(place) = position(decls.as_slice(), key) else {
+        return Err(EditFault::Missing(key.copy(alloc)?));
+    };
+    drop(decls.remove(place));
+    Ok(())
 }
 
 // The fault of a drop.
@@ -187,6 +236,7 @@ fn before_drop(
     decls: &[Decl],
     key: &DeclKey,
 ) -> Result<Option<EditFault>, AllocError>
+    requires { IsProgram decls.now }
     ensures { IfOk result (λ fault. fault ≡ before_drop decls.now key.now) }
 {
     if let Some(fault) = reserved_fault(alloc, reserved, key)? {
@@ -196,15 +246,4 @@ fn before_drop(
         return Ok(Some(fault));
     }
     in_use_fault(alloc, decls, key)
-}
-
-fn without(decls: Vec<Decl>, key: &DeclKey) -> Vec<Decl>
-    ensures { result.items ≡ without decls.items key.now }
-{
-    let mut decls = decls;
-    if let Some(place) = position(decls.as_slice(), key) {
-        let gone = decls.remove(place);
-        drop(gone);
-    }
-    decls
 }

@@ -3,17 +3,18 @@ ghost use Rattle.std.specs.Prelude.{◌≡◌, Some, IfOk};
 ghost use Rattle.std.specs.Option.{option_copied};
 ghost use Rattle.vx_syntax.specs.Keys.{key_of};
 ghost use Rattle.vx_syntax.specs.Counts.{capped};
+ghost use Rattle.vx_syntax.specs.Written.{IsDeclWritten};
+ghost use Rattle.vx_names.specs.declared.key.DeclKey.TheVariants as k;
 ghost use Rattle.vx_names.specs.Key.{key_name};
 ghost use Rattle.vx_program.specs.Prelude.{is_primitive, is_reserved};
 ghost use Rattle.vx_program.specs.Program.{IsProgram, is_wrong, is_name_of};
 ghost use Rattle.vx_program.specs.Apply.{reserved_fault, held, holder, exists_fault, gained, missing_fault, unknown_fault, wrong_kind_fault, cycle_fault, in_use_from, in_use_fault, over};
 
 use crate::edit::{Counted, EditFault};
-use crate::lookup::{
-    find, is_name_of, is_predicate_there, is_sealed, is_there, mentioned, parents_of,
-};
+use crate::lookup::{is_name_of, is_sealed, mentioned, parents_of};
 use crate::occupied::{occupied, occupies, shared};
 use crate::reserved::Reserved;
+use crate::search::{find, is_predicate_there, is_there, position_of_name};
 use crate::walk::leads_back;
 use sqlite_items::Items;
 use std::alloc::{AllocError, Global};
@@ -52,6 +53,32 @@ fn holder(
     decls: &[Decl],
     key: &DeclKey,
 ) -> Result<Option<DeclKey>, AllocError>
+    requires { IsProgram decls.now }
+    ensures { IfOk result (λ own. own ≡ holder decls.now key.now) }
+{
+    match key {
+        DeclKey::Object(name) => holder_of_name(alloc, decls, name),
+        _ => first_holder(alloc, reserved, decls, key),
+    }
+}
+
+// Only an object or a predicate holds the key of an object.
+fn holder_of_name(alloc: Global, decls: &[Decl], name: &Name) -> Result<Option<DeclKey>, AllocError>
+    requires { IsProgram decls.now }
+    ensures { IfOk result (λ own. own ≡ holder decls.now (k.Object name.now)) }
+{
+    match position_of_name(decls, name.bytes()) {
+        Some(place) => Ok(Some(decls[place].key(alloc)?)),
+        None => Ok(None),
+    }
+}
+
+fn first_holder(
+    alloc: Global,
+    reserved: &Reserved,
+    decls: &[Decl],
+    key: &DeclKey,
+) -> Result<Option<DeclKey>, AllocError>
     ensures { IfOk result (λ own. own ≡ holder decls.now key.now) }
 {
     for decl in decls {
@@ -72,6 +99,7 @@ pub fn exists_fault(
     decls: &[Decl],
     keys: &[DeclKey],
 ) -> Result<Option<EditFault>, AllocError>
+    requires { IsProgram decls.now }
     ensures { IfOk result (λ fault. fault ≡ exists_fault decls.now keys.now) }
 {
     for key in keys {
@@ -84,6 +112,7 @@ pub fn exists_fault(
 
 /// The keys that a declaration occupies and the one in whose place it comes does not.
 pub fn gained(alloc: Global, old: Option<&Decl>, new: &Decl) -> Result<Items<DeclKey>, AllocError>
+    requires { IsDeclWritten new.now }
     ensures { IfOk result (λ keys. keys ≡ gained (option_copied old.entry) new.now) }
 {
     match old {
@@ -93,6 +122,7 @@ pub fn gained(alloc: Global, old: Option<&Decl>, new: &Decl) -> Result<Items<Dec
 }
 
 fn not_occupied(alloc: Global, old: &Decl, new: &Decl) -> Result<Items<DeclKey>, AllocError>
+    requires { IsDeclWritten new.now }
     ensures { IfOk result (λ keys. keys ≡ gained (Some old.now) new.now) }
 {
     let all = occupied(alloc, new)?;
@@ -111,6 +141,7 @@ pub fn missing_fault(
     decls: &[Decl],
     key: &DeclKey,
 ) -> Result<Option<EditFault>, AllocError>
+    requires { IsProgram decls.now }
     ensures { IfOk result (λ fault. fault ≡ missing_fault decls.now key.now) }
 {
     match find(decls, key) {
@@ -125,6 +156,7 @@ pub fn unknown_fault(
     decls: &[Decl],
     names: &[Name],
 ) -> Result<Option<EditFault>, AllocError>
+    requires { IsProgram decls.now }
     ensures { IfOk result (λ fault. fault ≡ unknown_fault decls.now names.now) }
 {
     for name in names {
@@ -136,12 +168,13 @@ pub fn unknown_fault(
 }
 
 fn is_wrong(reserved: &Reserved, decls: &[Decl], decl: &Decl, x: &Name) -> bool
+    requires { IsProgram decls.now }
     ensures { result ≡ is_wrong decls.now decl.now x.now }
 {
     match decl {
         Decl::Object { .. } => is_predicate_there(decls, x) || is_sealed(x),
         Decl::Predicate { .. } => is_sealed(x),
-        Decl::Field { .. } => is_predicate_there(decls, x) || reserved.has_object(x),
+        Decl::Field { .. } => reserved.has_object(x),
         Decl::Method { .. } => false,
     }
 }
@@ -154,6 +187,7 @@ pub fn wrong_kind_fault(
     decl: &Decl,
     names: &[Name],
 ) -> Result<Option<EditFault>, AllocError>
+    requires { IsProgram decls.now }
     ensures { IfOk result (λ fault. fault ≡ wrong_kind_fault decls.now decl.now names.now) }
 {
     for name in names {

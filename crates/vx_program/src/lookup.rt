@@ -1,30 +1,11 @@
-//! Declarations by their names and keys.
-ghost use Rattle.std.specs.Prelude.{◌≡◌, ◌≤◌, ◌<◌, length, insert, IfSome};
-ghost use Rattle.std.specs.Option.{option_copied};
+//! What declarations name.
+ghost use Rattle.std.specs.Prelude.{◌≡◌};
 ghost use Rattle.std.specs.Str.{bytes_eq};
-ghost use Rattle.vx_syntax.specs.declared.decl.Decl.{Decl};
-ghost use Rattle.vx_syntax.specs.Keys.{key_of};
 ghost use Rattle.vx_program.specs.Prelude.{sealed};
-ghost use Rattle.vx_program.specs.Program.{find, is_named, is_predicate, is_there, is_predicate_there, is_name_of, mentioned, parents_of};
-ghost use Rattle.vx_program.specs.Apply.{with_decl, replaced, without};
-ghost use Rattle.vx_program.specs.Lookups.{put_at, dropped_at};
+ghost use Rattle.vx_program.specs.Program.{is_named, is_predicate, is_name_of, mentioned, parents_of};
 
-use crate::key::compare;
-use std::cmp::Ordering;
-use vx_names::{DeclKey, Name};
+use vx_names::Name;
 use vx_syntax::Decl;
-
-/// The declaration that has the key.
-pub fn find<'a>(decls: &'a [Decl], key: &DeclKey) -> Option<&'a Decl>
-    ensures { option_copied result ≡ find decls.now key.now }
-{
-    for decl in decls {
-        if compare(decl, key) == Ordering::Equal {
-            return Some(decl);
-        }
-    }
-    None
-}
 
 /// Whether the declaration is an object or a predicate of the name.
 pub fn is_named(decl: &Decl, x: &[u8]) -> bool
@@ -37,31 +18,8 @@ pub fn is_named(decl: &Decl, x: &[u8]) -> bool
     }
 }
 
-/// Whether there is an object or a predicate of the name.
-pub fn is_there(decls: &[Decl], x: &Name) -> bool
-    ensures { result ≡ is_there decls.now x.now }
-{
-    for decl in decls {
-        if is_named(decl, x.bytes()) {
-            return true;
-        }
-    }
-    false
-}
-
-/// Whether there is a predicate of the name.
-pub fn is_predicate_there(decls: &[Decl], x: &Name) -> bool
-    ensures { result ≡ is_predicate_there decls.now x.now }
-{
-    for decl in decls {
-        if is_predicate(decl) && is_named(decl, x.bytes()) {
-            return true;
-        }
-    }
-    false
-}
-
-fn is_predicate(decl: &Decl) -> bool
+/// Whether the declaration is a predicate.
+pub fn is_predicate(decl: &Decl) -> bool
     ensures { result ≡ is_predicate decl.now }
 {
     match decl {
@@ -105,45 +63,20 @@ pub fn mentioned(decl: &Decl) -> &[Name]
     }
 }
 
-/// Where the first declaration of a key stands, or where one would, in key order.
-pub fn place_of(decls: &[Decl], key: &DeclKey) -> usize
-    ensures within { result ≤ length decls.now }
-    ensures place { (new : Decl) → key_of new ≡ key.now → with_decl decls.now new ≡ insert decls.now result new }
-{
-    for (place, decl) in decls.iter().enumerate() {
-        if compare(decl, key) != Ordering::Less {
-            return place;
-        }
-    }
-    decls.len()
-}
-
-/// Where the first declaration of the key stands, if there is one.
-pub fn position(decls: &[Decl], key: &DeclKey) -> Option<usize>
-    ensures found { IfSome result (λ place. place < length decls.now) }
-    ensures put { (new : Decl) → key_of new ≡ key.now → replaced decls.now new ≡ put_at result decls.now new }
-    ensures dropped { without decls.now key.now ≡ dropped_at result decls.now }
-{
-    for (place, decl) in decls.iter().enumerate() {
-        if compare(decl, key) == Ordering::Equal {
-            return Some(place);
-        }
-    }
-    None
-}
-
 /// Whether nothing inherits from the object of this name.
 #[tactic(auto, using(crate::proofs::Lookups::sealed_is))]
 pub fn is_sealed(x: &Name) -> bool
     ensures { result ≡ is_name_of sealed x.now }
 {
+    let x = x.bytes();
     let plain = is_spelled(x, b"int") | (is_spelled(x, b"string") | is_spelled(x, b"closure"));
     let value = is_spelled(x, b"true") | (is_spelled(x, b"false") | is_spelled(x, b"nil"));
     plain | value
 }
 
-fn is_spelled(x: &Name, bytes: &[u8]) -> bool
+/// Whether the bytes spell x.
+pub fn is_spelled(x: &[u8], bytes: &[u8]) -> bool
     ensures { result ≡ bytes_eq bytes.now x.now }
 {
-    bytes == x.bytes()
+    bytes == x
 }

@@ -4,7 +4,7 @@ ghost use Rattle.vx_names.specs.declared.key.DeclKey.TheVariants as k;
 ghost use Rattle.vx_program.specs.Program.{occupied, getter, setter};
 ghost use Rattle.vx_program.specs.Methods.{with_selector, methods};
 
-use crate::occupied::{getter, is_getter_of, is_setter_of, setter};
+use crate::occupied::{getter, is_getter_of, is_setter_of, setter_of};
 use crate::reserved::Reserved;
 use sqlite_items::Items;
 use std::alloc::{AllocError, Global};
@@ -77,7 +77,7 @@ fn push_of_field(
         keys.push(getter(alloc, key)?)?;
     }
     if changeable && is_setter_of(key, selector) {
-        keys.push(setter(alloc, key)?)?;
+        keys.push(setter_of(alloc, key, selector.copy(alloc)?)?)?;
     }
     Ok(())
 }

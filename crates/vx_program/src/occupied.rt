@@ -1,10 +1,11 @@
 //! The keys that declarations occupy.
-ghost use Rattle.std.specs.Prelude.{◌≡◌, ◌++◌, ◌∷◌, [], if◌then◌else◌, codes, IfOk};
+ghost use Rattle.std.specs.Prelude.{◌≡◌, ◌++◌, ◌∷◌, [], if◌then◌else◌, codes, true, IfOk};
 ghost use Rattle.std.specs.Ordering.{is_eq};
 ghost use Rattle.std.specs.Str.{bytes_eq};
 ghost use Rattle.vx_names.specs.Key.{selector_cmp};
 ghost use Rattle.vx_names.specs.declared.key.DeclKey.TheVariants as k;
 ghost use Rattle.vx_syntax.specs.declared.decl.Decl.TheVariants as d;
+ghost use Rattle.vx_syntax.specs.Written.{IsDeclWritten, IsKeyWritten};
 ghost use Rattle.vx_program.specs.Prelude.{same_key};
 ghost use Rattle.vx_program.specs.Program.{shared, occupied, occupies, getter, setter};
 ghost use Rattle.vx_program.specs.Lookups.{are_two};
@@ -28,6 +29,7 @@ pub fn shared(alloc: Global, key: &DeclKey) -> Result<DeclKey, AllocError>
 
 /// The keys that a declaration occupies, in the order in which they are tried.
 pub fn occupied(alloc: Global, decl: &Decl) -> Result<Items<DeclKey>, AllocError>
+    requires { IsDeclWritten decl.now }
     ensures { IfOk result (λ keys. keys ≡ occupied decl.now) }
 {
     match decl {
@@ -46,6 +48,7 @@ pub fn occupied(alloc: Global, decl: &Decl) -> Result<Items<DeclKey>, AllocError
 }
 
 fn of_field(alloc: Global, key: &FieldKey, changeable: bool) -> Result<Items<DeclKey>, AllocError>
+    requires { IsKeyWritten (k.Field key.now) }
     ensures { IfOk result (λ keys. keys ≡ k.Field key.now ∷ k.Method (getter key.now) ∷ (if changeable then k.Method (setter key.now) ∷ [] else [])) }
 {
     let mut keys = Items::new(alloc);
@@ -72,16 +75,25 @@ pub fn getter(alloc: Global, key: &FieldKey) -> Result<MethodKey, AllocError>
 
 /// The method that sets the field.
 pub fn setter(alloc: Global, key: &FieldKey) -> Result<MethodKey, AllocError>
+    requires { IsKeyWritten (k.Field key.now) }
+    ensures { IfOk result (λ method. method ≡ setter key.now) }
+{
+    let mut bytes = Vec::from_slice(alloc, b"set_")?;
+    bytes.extend_from_slice(key.name.bytes())?;
+    let name = name_of(alloc, bytes.as_slice())?;
+    setter_of(alloc, key, Selector { name, arity: 2 })
+}
+
+/// The method that sets the field, which has this selector.
+pub fn setter_of(alloc: Global, key: &FieldKey, selector: Selector) -> Result<MethodKey, AllocError>
+    requires { is_eq (selector_cmp (setter key.now).selector selector) ≡ true }
     ensures { IfOk result (λ method. method ≡ setter key.now) }
 {
     let mut specialisers = Items::new(alloc);
     specialisers.push(key.specialiser.copy(alloc)?)?;
     specialisers.push(name_of(alloc, b"any")?)?;
-    let mut bytes = Vec::from_slice(alloc, b"set_")?;
-    bytes.extend_from_slice(key.name.bytes())?;
-    let name = name_of(alloc, bytes.as_slice())?;
     Ok(MethodKey {
-        selector: Selector { name, arity: 2 },
+        selector,
         specialisers,
     })
 }

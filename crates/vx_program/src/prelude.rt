@@ -1,9 +1,11 @@
 //! What each program has from the beginning.
 ghost use Rattle.std.specs.Prelude.{◌≡◌, ◌≤◌, ◌++◌, ◌∷◌, [], map, length, codes, Some, IfOk, OnOk};
+ghost use Rattle.vx_names.specs.Name.{IsName};
 ghost use Rattle.vx_syntax.specs.declared.expr.Expr.TheVariants as e;
+ghost use Rattle.vx_syntax.specs.declared.expr.Stmt.TheVariants as t;
 ghost use Rattle.vx_syntax.specs.declared.decl.Decl.TheVariants as d;
 ghost use Rattle.vx_syntax.specs.Declarations.{any, method_key};
-ghost use Rattle.vx_program.specs.Prelude.{child, sent, sent_to_two, answering, first_objects, last_objects, comparisons, conjunctions, choices, negations, disjunctions, logic, prelude};
+ghost use Rattle.vx_program.specs.Prelude.{child, sent, sent_to_two, sent_to_three, closure, answering, first_objects, last_objects, comparisons, conjunctions, choices, negations, disjunctions, turn, repetitions, logic, prelude};
 
 use sqlite_items::Items;
 use std::alloc::{AllocError, Global};
@@ -24,6 +26,7 @@ pub fn prelude(alloc: Global) -> Result<Vec<Decl>, AllocError>
 
 /// A list of one name.
 pub fn one(alloc: Global, x: &[u8]) -> Result<Items<Name>, AllocError>
+    requires { IsName x.now }
     ensures { IfOk result (λ names. names ≡ x.now ∷ []) }
 {
     and(alloc, Items::new(alloc), x)
@@ -31,6 +34,7 @@ pub fn one(alloc: Global, x: &[u8]) -> Result<Items<Name>, AllocError>
 
 /// The names, and one more behind them.
 pub fn and(alloc: Global, names: Items<Name>, x: &[u8]) -> Result<Items<Name>, AllocError>
+    requires { IsName x.now }
     ensures { IfOk result (λ all. all ≡ names ++ x.now ∷ []) }
 {
     let mut names = names;
@@ -54,7 +58,7 @@ pub fn method_key(
     x: &[u8],
     specialisers: Items<Name>,
 ) -> Result<MethodKey, AllocError>
-    requires { length specialisers ≤ 8 }
+    requires { IsName x.now × (length specialisers ≤ 8) }
     ensures { IfOk result (λ key. key ≡ method_key x.now specialisers) }
 {
     let selector = Selector {
@@ -68,12 +72,14 @@ pub fn method_key(
 }
 
 fn named(alloc: Global, x: &[u8]) -> Result<Expr, AllocError>
+    requires { IsName x.now }
     ensures { IfOk result (λ expr. expr ≡ e.Name x.now) }
 {
     Ok(Expr::Name(name_of(alloc, x)?))
 }
 
 fn sent(alloc: Global, x: &[u8], a: Expr) -> Result<Expr, AllocError>
+    requires { IsName x.now }
     ensures { IfOk result (λ expr. expr ≡ sent x.now a) }
 {
     let selector = Selector {
@@ -86,6 +92,7 @@ fn sent(alloc: Global, x: &[u8], a: Expr) -> Result<Expr, AllocError>
 }
 
 fn sent_to_two(alloc: Global, x: &[u8], a: Expr, b: Expr) -> Result<Expr, AllocError>
+    requires { IsName x.now }
     ensures { IfOk result (λ expr. expr ≡ sent_to_two x.now a b) }
 {
     let selector = Selector {
@@ -98,6 +105,30 @@ fn sent_to_two(alloc: Global, x: &[u8], a: Expr, b: Expr) -> Result<Expr, AllocE
     Ok(Expr::Send(selector, arguments))
 }
 
+fn sent_to_three(alloc: Global, x: &[u8], a: Expr, b: Expr, c: Expr) -> Result<Expr, AllocError>
+    requires { IsName x.now }
+    ensures { IfOk result (λ expr. expr ≡ sent_to_three x.now a b c) }
+{
+    let selector = Selector {
+        name: name_of(alloc, x)?,
+        arity: 3,
+    };
+    let mut arguments = Items::new(alloc);
+    arguments.push(a)?;
+    arguments.push(b)?;
+    arguments.push(c)?;
+    Ok(Expr::Send(selector, arguments))
+}
+
+// A closure of one statement, without formals.
+fn closure(alloc: Global, statement: Stmt) -> Result<Expr, AllocError>
+    ensures { IfOk result (λ expr. expr ≡ closure statement) }
+{
+    let mut statements = Items::new(alloc);
+    statements.push(statement)?;
+    Ok(Expr::Closure(Items::new(alloc), Body(statements)))
+}
+
 fn answering(
     alloc: Global,
     x: &[u8],
@@ -105,7 +136,7 @@ fn answering(
     specialisers: Items<Name>,
     a: Expr,
 ) -> Result<Decl, AllocError>
-    requires { length specialisers ≤ 8 }
+    requires { IsName x.now × (length specialisers ≤ 8) }
     ensures { IfOk result (λ decl. decl ≡ answering x.now names specialisers a) }
 {
     let key = method_key(alloc, x, specialisers)?;
@@ -156,6 +187,7 @@ fn root(alloc: Global) -> Result<Decl, AllocError>
 }
 
 fn child(alloc: Global, x: &[u8], parent: &[u8]) -> Result<Decl, AllocError>
+    requires { IsName x.now × IsName parent.now }
     ensures { IfOk result (λ decl. decl ≡ child x.now parent.now) }
 {
     let parents = one(alloc, parent)?;
@@ -167,6 +199,7 @@ fn child(alloc: Global, x: &[u8], parent: &[u8]) -> Result<Decl, AllocError>
 
 /// A list of two names.
 pub fn pair(alloc: Global, x: &[u8], y: &[u8]) -> Result<Items<Name>, AllocError>
+    requires { IsName x.now × IsName y.now }
     ensures { IfOk result (λ names. names ≡ x.now ∷ y.now ∷ []) }
 {
     and(alloc, one(alloc, x)?, y)
@@ -174,7 +207,7 @@ pub fn pair(alloc: Global, x: &[u8], y: &[u8]) -> Result<Items<Name>, AllocError
 
 // A method of two formals, `a` and `b`.
 fn binary(alloc: Global, x: &[u8], specialisers: Items<Name>, a: Expr) -> Result<Decl, AllocError>
-    requires { length specialisers ≤ 8 }
+    requires { IsName x.now × (length specialisers ≤ 8) }
     ensures { IfOk result (λ decl. decl ≡ answering x.now (codes "a" ∷ codes "b" ∷ []) specialisers a) }
 {
     answering(alloc, x, pair(alloc, b"a", b"b")?, specialisers, a)
@@ -182,6 +215,7 @@ fn binary(alloc: Global, x: &[u8], specialisers: Items<Name>, a: Expr) -> Result
 
 // `x < y`
 fn less(alloc: Global, x: &[u8], y: &[u8]) -> Result<Expr, AllocError>
+    requires { IsName x.now × IsName y.now }
     ensures { IfOk result (λ expr. expr ≡ sent_to_two (codes "<") (e.Name x.now) (e.Name y.now)) }
 {
     sent_to_two(alloc, b"<", named(alloc, x)?, named(alloc, y)?)
@@ -189,6 +223,7 @@ fn less(alloc: Global, x: &[u8], y: &[u8]) -> Result<Expr, AllocError>
 
 // `eval(x)`
 fn evaluated(alloc: Global, x: &[u8]) -> Result<Expr, AllocError>
+    requires { IsName x.now }
     ensures { IfOk result (λ expr. expr ≡ sent (codes "eval") (e.Name x.now)) }
 {
     sent(alloc, b"eval", named(alloc, x)?)
@@ -218,6 +253,7 @@ fn push_conjunctions(alloc: Global, decls: &mut Vec<Decl>) -> Result<(), AllocEr
 
 // An `if` with one branch, for this first argument.
 fn choice(alloc: Global, condition: &[u8], a: Expr) -> Result<Decl, AllocError>
+    requires { IsName condition.now }
     ensures { IfOk result (λ decl. decl ≡ answering (codes "if") (codes "c" ∷ codes "t" ∷ []) (condition.now ∷ any ∷ []) a) }
 {
     let specialisers = pair(alloc, condition, b"any")?;
@@ -226,6 +262,7 @@ fn choice(alloc: Global, condition: &[u8], a: Expr) -> Result<Decl, AllocError>
 
 // An `if` with two branches, for this first argument.
 fn choice_of_two(alloc: Global, condition: &[u8], a: Expr) -> Result<Decl, AllocError>
+    requires { IsName condition.now }
     ensures { IfOk result (λ decl. decl ≡ answering (codes "if") (codes "c" ∷ codes "t" ∷ codes "e" ∷ []) (condition.now ∷ any ∷ any ∷ []) a) }
 {
     let formals = and(alloc, pair(alloc, b"c", b"t")?, b"e")?;
@@ -244,6 +281,7 @@ fn push_choices(alloc: Global, decls: &mut Vec<Decl>) -> Result<(), AllocError>
 }
 
 fn negation(alloc: Global, given: &[u8], answer: &[u8]) -> Result<Decl, AllocError>
+    requires { IsName given.now × IsName answer.now }
     ensures { IfOk result (λ decl. decl ≡ answering (codes "not") (codes "a" ∷ []) (given.now ∷ []) (e.Name answer.now)) }
 {
     let specialisers = one(alloc, given)?;
@@ -274,11 +312,50 @@ fn push_disjunctions(alloc: Global, decls: &mut Vec<Decl>) -> Result<(), AllocEr
     Ok(())
 }
 
+// A turn of `while`, for a condition `c` and a body `b`.
+fn turn(alloc: Global) -> Result<Expr, AllocError>
+    ensures { IfOk result (λ expr. expr ≡ turn) }
+{
+    let condition = evaluated(alloc, b"c")?;
+    let body = closure(alloc, Stmt::Do(evaluated(alloc, b"b")?))?;
+    let end = closure(alloc, Stmt::Back(named(alloc, b"nil")?))?;
+    sent_to_three(alloc, b"if", condition, body, end)
+}
+
+// Turns without end, in the body of `while`.
+fn turns(alloc: Global) -> Result<Expr, AllocError>
+    ensures { IfOk result (λ expr. expr ≡ sent (codes "loop") (closure (t.Do turn))) }
+{
+    let turns = closure(alloc, Stmt::Do(turn(alloc)?))?;
+    sent(alloc, b"loop", turns)
+}
+
+fn repetition(alloc: Global, body: Expr) -> Result<Decl, AllocError>
+    ensures { IfOk result (λ decl. decl ≡ answering (codes "while") (codes "c" ∷ codes "b" ∷ []) (codes "closure" ∷ codes "closure" ∷ []) body) }
+{
+    let specialisers = pair(alloc, b"closure", b"closure")?;
+    answering(
+        alloc,
+        b"while",
+        pair(alloc, b"c", b"b")?,
+        specialisers,
+        body,
+    )
+}
+
+fn push_repetitions(alloc: Global, decls: &mut Vec<Decl>) -> Result<(), AllocError>
+    ensures { OnOk result (decls.new.items ≡ decls.old.items ++ repetitions) }
+{
+    decls.push(repetition(alloc, turns(alloc)?)?)?;
+    Ok(())
+}
+
 fn push_logic(alloc: Global, decls: &mut Vec<Decl>) -> Result<(), AllocError>
     ensures { OnOk result (decls.new.items ≡ decls.old.items ++ logic) }
 {
     push_conjunctions(alloc, decls)?;
     push_choices(alloc, decls)?;
     push_negations(alloc, decls)?;
-    push_disjunctions(alloc, decls)
+    push_disjunctions(alloc, decls)?;
+    push_repetitions(alloc, decls)
 }

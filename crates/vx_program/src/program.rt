@@ -1,4 +1,4 @@
-ghost use Rattle.std.specs.Prelude.{◌≡◌, ◌<◌, ℕ, Ok, Some, true, length, slice_get, IfOk, IfErr, IfSome};
+ghost use Rattle.std.specs.Prelude.{◌≡◌, ◌<◌, ℕ, Ok, Some, true, length, slice_get, IfOk, IfErr, IfSome, OnOk, OnErr};
 ghost use Rattle.std.specs.Option.{option_copied};
 ghost use Rattle.std.specs.List as list;
 ghost use Rattle.std.specs.List.{position_from};
@@ -8,17 +8,17 @@ ghost use Rattle.vx_program.specs.Program.{find, is_named, occupies, IsProgram};
 ghost use Rattle.vx_program.specs.Methods.{methods};
 ghost use Rattle.vx_program.specs.Apply.{apply, IsFaultOf, IsWritable};
 
-use crate::changes::changed;
+use crate::changes::change;
 use crate::edit::{Edit, EditFault};
-use crate::lookup;
 use crate::methods::methods;
 use crate::occupied::occupies;
 use crate::prelude::prelude;
 use crate::reserved::Reserved;
-use crate::walk::position;
+use crate::search;
 use sqlite_items::Items;
 use std::alloc::{AllocError, Global};
 use std::marker::Model;
+use std::rc::Rc;
 use vx_names::{DeclKey, MethodKey, Selector};
 use vx_syntax::Decl;
 
@@ -27,7 +27,8 @@ use vx_syntax::Decl;
 pub struct Program {
     alloc: Global,
     decls: Vec<Decl>,
-    reserved: Reserved,
+    // They are the same for all programs, so one that comes of another shares them with it.
+    reserved: Rc<Reserved, Global>,
 }
 
 impl Model for Program {
@@ -52,7 +53,7 @@ impl Program {
         ensures { IfOk result (λ program. program ≡ prelude) }
     {
         let decls = prelude(alloc)?;
-        let reserved = Reserved::new(alloc)?;
+        let reserved = Rc::new(alloc, Reserved::new(alloc)?)?;
         Ok(Program {
             alloc,
             decls,
@@ -72,7 +73,7 @@ impl Program {
     pub fn find(&self, key: &DeclKey) -> Option<&Decl>
         ensures { option_copied result ≡ find self.now key.now }
     {
-        lookup::find(self.decls.as_slice(), key)
+        search::find(self.decls.as_slice(), key)
     }
 
     /// Where the object or predicate whose name has these bytes stands among the declarations.
@@ -81,7 +82,7 @@ impl Program {
         ensures some { IfSome result (λ place. (decl : Decl) × (slice_get self.now place ≡ Some decl) × (is_named x.now decl ≡ true)) }
         ensures only { (place : ℕ) (decl : Decl) → slice_get self.now place ≡ Some decl → is_named x.now decl ≡ true → result ≡ Some place }
     {
-        position(self.decls.as_slice(), x)
+        search::position_of_name(self.decls.as_slice(), x)
     }
 
     /// The methods of the selector: those that are declared and those that read and set fields, as the declarations come,
@@ -89,7 +90,12 @@ impl Program {
     pub fn methods(&self, selector: &Selector) -> Result<Items<MethodKey>, AllocError>
         ensures { IfOk result (λ keys. keys ≡ methods self.now selector.now) }
     {
-        methods(self.alloc, &self.reserved, self.decls.as_slice(), selector)
+        methods(
+            self.alloc,
+            self.reserved.as_ref(),
+            self.decls.as_slice(),
+            selector,
+        )
     }
 
     /// The declaration that occupies the key: that of the key itself, or that of the field which a method reads or sets.
@@ -108,7 +114,7 @@ impl Program {
     pub fn primitive(&self, key: &DeclKey) -> Option<usize>
         ensures { result ≡ position_from (λ one. same_key one key.now) 0 primitive_keys }
     {
-        self.reserved.primitive(key)
+        self.reserved.as_ref().primitive(key)
     }
 
     /// The program after the edit, whose changes it takes in order, all or none.
@@ -117,19 +123,45 @@ impl Program {
         ensures ok { IfOk result (λ next. apply self.now edit.now.changes ≡ Ok next) }
         ensures fault { IfErr result (IsFaultOf (apply self.now edit.now.changes)) }
     {
-        let reserved = Reserved::new(self.alloc)?;
-        let mut decls = copy_decls(self.alloc, self.decls.as_slice())?;
-        for change in edit.changes.as_slice() {
-            match changed(self.alloc, &reserved, decls, change) {
-                Ok(next) => decls = next,
-                Err(fault) => return Err(fault),
-            }
-        }
+        let decls = self.edited(edit)?;
         Ok(Program {
             alloc: self.alloc,
             decls,
-            reserved,
+            reserved: self.reserved.clone()?,
         })
+    }
+
+    /// Takes the edit in place: the program becomes the one after it. Where the edit is refused and where memory runs out, it
+    /// stays as it was. A single change copies nothing but what it brings.
+    pub fn change(&mut self, edit: &Edit) -> Result<(), EditFault>
+        requires { IsWritable edit.now.changes }
+        ensures ok { OnOk result (apply self.old edit.now.changes ≡ Ok self.new) }
+        ensures fault { IfErr result (IsFaultOf (apply self.old edit.now.changes)) }
+        ensures unchanged { OnErr result (self.new ≡ self.old) }
+    {
+        match edit.changes.as_slice() {
+            [one] => change(self.alloc, self.reserved.as_ref(), &mut self.decls, one),
+            _ => {
+                self.decls = self.edited(edit)?;
+                Ok(())
+            }
+        }
+    }
+
+    // The declarations after the edit, in a list of their own.
+    fn edited(&self, edit: &Edit) -> Result<Vec<Decl>, EditFault>
+        requires { IsWritable edit.now.changes }
+        ensures ok { IfOk result (λ next. (apply self.now edit.now.changes ≡ Ok next.items) × IsProgram next.items) }
+        ensures fault { IfErr result (IsFaultOf (apply self.now edit.now.changes)) }
+    {
+        let mut decls = copy_decls(self.alloc, self.decls.as_slice())?;
+        for one in edit.changes.as_slice() {
+            match change(self.alloc, self.reserved.as_ref(), &mut decls, one) {
+                Ok(()) => {}
+                Err(fault) => return Err(fault),
+            }
+        }
+        Ok(decls)
     }
 
     /// The same program again.
@@ -137,11 +169,10 @@ impl Program {
         ensures { IfOk result (λ copy. copy ≡ self.now) }
     {
         let decls = copy_decls(self.alloc, self.decls.as_slice())?;
-        let reserved = Reserved::new(self.alloc)?;
         Ok(Program {
             alloc: self.alloc,
             decls,
-            reserved,
+            reserved: self.reserved.clone()?,
         })
     }
 }

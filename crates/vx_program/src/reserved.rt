@@ -1,5 +1,6 @@
 //! The keys that no change may name.
 ghost use Rattle.std.specs.Prelude.{◌≡◌, ◌≤◌, ◌++◌, ◌∷◌, [], length, map, count_by, codes, IfOk, OnOk};
+ghost use Rattle.vx_names.specs.Name.{IsName};
 ghost use Rattle.vx_names.specs.declared.key.DeclKey.TheVariants as k;
 ghost use Rattle.std.specs.List.{list_any, position_from};
 ghost use Rattle.vx_syntax.specs.Declarations.{method_key};
@@ -18,7 +19,7 @@ use std::marker::Model;
 use vx_names::{DeclKey, MethodKey, Name, Selector, name_of};
 
 /// How many declarations the prelude has.
-pub const PRELUDE_DECLARATIONS: u64 = 21;
+pub const PRELUDE_DECLARATIONS: u64 = 22;
 
 /// The keys of the prelude's declarations and of the primitives. It holds nothing else, so contracts see nothing of it.
 #[derive(Drop)]
@@ -205,7 +206,7 @@ fn push(
     x: &[u8],
     specialisers: Items<Name>,
 ) -> Result<(), AllocError>
-    requires { length specialisers ≤ 8 }
+    requires { IsName x.now × (length specialisers ≤ 8) }
     ensures { OnOk result (keys.new ≡ keys.old ++ k.Method (method_key x.now specialisers) ∷ []) }
 {
     keys.push(DeclKey::Method(method_key(alloc, x, specialisers)?))?;
@@ -213,12 +214,14 @@ fn push(
 }
 
 fn push_of_integers(alloc: Global, keys: &mut Items<DeclKey>, x: &[u8]) -> Result<(), AllocError>
+    requires { IsName x.now }
     ensures { OnOk result (keys.new ≡ keys.old ++ k.Method (of_integers x.now) ∷ []) }
 {
     push(alloc, keys, x, pair(alloc, b"int", b"int")?)
 }
 
 fn push_of_strings(alloc: Global, keys: &mut Items<DeclKey>, x: &[u8]) -> Result<(), AllocError>
+    requires { IsName x.now }
     ensures { OnOk result (keys.new ≡ keys.old ++ k.Method (of_strings x.now) ∷ []) }
 {
     push(alloc, keys, x, pair(alloc, b"string", b"string")?)
@@ -260,6 +263,7 @@ fn push_of_one(
     x: &[u8],
     specialiser: &[u8],
 ) -> Result<(), AllocError>
+    requires { IsName x.now × IsName specialiser.now }
     ensures { OnOk result (keys.new ≡ keys.old ++ k.Method (of_one x.now specialiser.now) ∷ []) }
 {
     push(alloc, keys, x, one(alloc, specialiser)?)

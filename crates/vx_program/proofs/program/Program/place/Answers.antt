@@ -8,5 +8,5 @@ pub returns-clause-only : goal.returns-clause-only
 returns-clause-only c =
     let inside : c.as_slice.result.now ≡ c.self.inside.decls.items = c.as_slice.ensures.value in
     let same : c.as_slice.result.now ≡ c.args.self.now = cc (inside, c.self.view_is) in
-    λ place decl e n. only_place c.as_slice.result.now (subst IsProgram (sym inside) c.self.invariant) c.args.x.now c.position.result c.position.ensures.some
-    c.position.ensures.none place decl (ap (λ decls. slice_get decls place) same ∙ e) n
+    λ place decl e n. only_place c.as_slice.result.now (subst IsProgram (sym inside) c.self.invariant) c.args.x.now c.position_of_name.result c.position_of_name.ensures.some
+    c.position_of_name.ensures.none place decl (ap (λ decls. slice_get decls place) same ∙ e) n

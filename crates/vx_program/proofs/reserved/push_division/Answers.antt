@@ -1,0 +1,9 @@
+use Rattle.std.proofs.Common.{refl, inr}
+use Rattle.vx_names.specs.declared.operator.Operator.TheVariants as o
+use Rattle.vx_program.proofs.reserved.push_division.Goals as goal
+
+pub push_of_integers-requires : goal.push_of_integers-requires
+push_of_integers-requires c = inr (o.Slash, refl)
+
+pub push_of_integers-requires-2 : goal.push_of_integers-requires-2
+push_of_integers-requires-2 c = inr (o.Percent, refl)
