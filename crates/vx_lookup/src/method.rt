@@ -10,7 +10,9 @@ use vx_names::{MethodKey, Name, Selector};
 use vx_program::Program;
 
 /// The method that the message finds, where it is sent on from the method `below` if there is one: the one that is more
-/// specific than all others that are applicable (Chambers, The Cecil Language: Specification and Rationale).
+/// specific than all others that are applicable (Chambers, The Cecil Language: Specification and Rationale). It keeps marks
+/// for all declarations on the stack, which are to be gone when the method found is evaluated, so it is never inlined.
+#[inline(never)]
 pub fn lookup(
     alloc: Global,
     program: &Program,

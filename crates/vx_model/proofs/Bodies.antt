@@ -1,9 +1,10 @@
 -- Expressions and statements that stand in some text are never stuck, where calls are not.
-use Rattle.std.proofs.Common.{◌≡◌, ℕ, ◌<◌, Bool, true, false, ◌||◌, ◌&&◌, List, [], ◌∷◌, ◌++◌, length, codes, Option, Some, None, refl, sym, ◌∙◌, subst, inl, inr, arith}
+use Rattle.std.proofs.Common.{◌≡◌, ℕ, suc, ◌<◌, Bool, true, false, ◌||◌, ◌&&◌, List, [], ◌∷◌, ◌++◌, length, codes, Option, Some, None, is_some, refl, sym, ap, ◌∙◌, subst, inl, inr, arith}
+use Rattle.std.specs.List.{list_all}
 use Rattle.std.specs.Option.{IfSome}
-use Rattle.std.specs.Prelude.{if◌then◌else◌}
+use Rattle.std.specs.Prelude.{◌==◌, if◌then◌else◌}
 use Rattle.std.specs.Str.{bytes_eq}
-use Rattle.std.proofs.lemmas.Bool.{false≢true, cases_Bool, cond-true, cond-false, and_parts, or_cases, or_left, or_right, both_ways, false_from_ne_true, not-true}
+use Rattle.std.proofs.lemmas.Bool.{false≢true, cases_Bool, cond-true, cond-false, and_from, and_parts, or_cases, or_left, or_right, both_ways, false_from_ne_true, not-true, eq-eqb}
 use Rattle.std.proofs.lemmas.List.{length_push}
 use Rattle.vx_lists.proofs.Each.{all_at}
 use Rattle.vx_lists.proofs.Places.{stands, mapped_behind}
@@ -17,6 +18,7 @@ use Rattle.vx_syntax.specs.Written.{is_over, is_last, AreNew, IsWritten, AreWrit
 use Rattle.vx_program.specs.Prelude.{sealed}
 use Rattle.vx_program.specs.Program.{IsProgram, is_name_of}
 use Rattle.vx_model.specs.declared.value.Value.{Value}
+use Rattle.vx_model.specs.declared.value.Value.TheVariants as v
 use Rattle.vx_model.specs.declared.value.Local.{Local}
 use Rattle.vx_model.specs.declared.value.Local.TheVariants as l
 use Rattle.vx_model.specs.declared.value.Thing.{Thing}
@@ -25,10 +27,11 @@ use Rattle.vx_model.specs.declared.value.Heap.{Heap}
 use Rattle.vx_model.specs.declared.report.RunError.TheVariants as e
 use Rattle.vx_model.specs.Order.{plain_names}
 use Rattle.vx_model.specs.Fields.{field_at}
+use Rattle.vx_model.specs.Holds.{slot}
 use Rattle.vx_model.specs.Values.{object, nil, fresh_slots, unnamed, is_meant, is_made}
-use Rattle.vx_model.specs.Meaning.{State, Back, Fails, Out, Stuck, Done, Gives, Stops, after, Message, Allowance, call, Frame, bound, given, named, assigned, field_names, keys_of, constructing, filled, made, statements_of, closed, expression, parts, fields, in_scope, statements}
+use Rattle.vx_model.specs.Meaning.{State, Back, Fails, Out, Stuck, Done, Gives, Stops, after, Message, Allowance, call, Frame, bound, given, named, assigned, field_names, keys_of, constructing, filled, are_filled, made, with_object, statements_of, closed, expression, parts, fields, in_scope, statements}
 use Rattle.vx_model.proofs.Sound.{IsLater, as_late, later_on, class, IsSound, AreSound, IsLocal, AreBindings, Covers, IsHeld, IsHeap, still_sound, all_still_sound, still_bindings, with_value, later_thing, later_value, later_held, later_value_at, heap_with_thing, heap_with_value, heap_with_held, heap_with_value_at, with_value_at}
-use Rattle.vx_model.proofs.Things.{meant_sound, nil_sound, fresh_sound, filled_sound}
+use Rattle.vx_model.proofs.Things.{meant_sound, nil_sound, fresh_sound, meant_has_slot, filled_sound}
 
 -- ---- how an evaluation ends
 
@@ -73,7 +76,7 @@ pub record IsFrame (heap : Heap) (static : Scope) (frame : Frame) : Type 0 where
   pub bindings : AreBindings heap frame.scope
   pub covers : Covers static frame.scope
 
-still_frame : {old new : Heap} → IsLater old new → {static : Scope} {frame : Frame} → IsFrame old static frame → IsFrame new static frame
+pub still_frame : {old new : Heap} → IsLater old new → {static : Scope} {frame : Frame} → IsFrame old static frame → IsFrame new static frame
 still_frame later {static} {frame} f = record {
   given_values = all_still_sound later frame.arguments f.given_values;
   bindings = still_bindings later frame.scope f.bindings;
@@ -103,8 +106,8 @@ other_name static name y free h =
     both_ways (is_bound static name) free
     (subst (λ z. is_bound static z ≡ true) (sym (same_bytes name y same)) (variable_bound static y h)))
 
-let_frame : {heap : Heap} {static : Scope} {frame : Frame} → IsFrame heap static frame → (name : Bytes) (value : Value) → is_bound static name ≡ false → IsSound heap value →
-    IsFrame heap ((name, false) ∷ static) (in_scope frame name (l.Plain value))
+pub let_frame : {heap : Heap} {static : Scope} {frame : Frame} → IsFrame heap static frame → (name : Bytes) (value : Value) →
+    is_bound static name ≡ false → IsSound heap value → IsFrame heap ((name, false) ∷ static) (in_scope frame name (l.Plain value))
 let_frame {heap} {static} {frame} f name value free s = record {
   given_values = f.given_values;
   bindings = (s, f.bindings);
@@ -114,7 +117,7 @@ let_frame {heap} {static} {frame} f name value free s = record {
       (r.0, cond-false (bytes_eq name y) (Some (l.Plain value)) (bound y frame.scope) (other_name static name y free old) ∙ r.1);
 }
 
-var_frame : {heap : Heap} {static : Scope} {frame : Frame} → IsFrame heap static frame → (name : Bytes) (i : ℕ) → i < length heap.cells →
+pub var_frame : {heap : Heap} {static : Scope} {frame : Frame} → IsFrame heap static frame → (name : Bytes) (i : ℕ) → i < length heap.cells →
     IsFrame heap ((name, true) ∷ static) (in_scope frame name (l.Cell i))
 var_frame {heap} {static} {frame} f name i there = record {
   given_values = f.given_values;
@@ -129,6 +132,16 @@ var_frame {heap} {static} {frame} f name i there = record {
             ]
       ];
 }
+
+-- an evaluation that began in one heap, and has come to a state of an activation, in whose scope the text to come stands
+pub record IsRunning (program : List Decl) (old : Heap) (static : Scope) (frame : Frame) (state : State) : Type 0 where
+  pub sound : IsHeap program state.heap
+  pub activation : IsFrame state.heap static frame
+  pub since : IsLater old state.heap
+
+runs_on : {program : List Decl} {old : Heap} {static : Scope} {frame : Frame} {state next : State} → IsRunning program old static frame state →
+    IsHeap program next.heap → IsLater state.heap next.heap → IsRunning program old static frame next
+runs_on running is later = record { sound = is; activation = still_frame later running.activation; since = later_on running.since later }
 
 -- ---- expressions
 
@@ -149,7 +162,8 @@ named_fine program name (Some (l.Cell i)) state is s =
     (is, as_late state.heap, all_at (IsSound state.heap) state.heap.cells i r.0 r.1 is.values)
 named_fine program name None state is s = by (is_meant program name) refl
   where
-    by : (b : Bool) → is_meant program name ≡ b → IsFine program state.heap (if b then Gives (object program name) state else Stops (Fails (e.UnknownObject name)) state)
+    by : (b : Bool) → is_meant program name ≡ b →
+        IsFine program state.heap (if b then Gives (object program name) state else Stops (Fails (e.UnknownObject name)) state)
     by true h = (is, as_late state.heap, meant_sound program is.begun name h)
     by false h = tt
 
@@ -161,30 +175,58 @@ stated : {n : _} (row : x.Row_of-Stmt n) (static : Scope) → IsBodyWritten row 
 stated x.end_of-Stmt static h = tt
 stated (x.more_of-Stmt a rest) static h = (h.0, (λ back. over_last rest (h.1 back)), stated rest (brings static a) h.2)
 
-closed_fine : (program : List Decl) (static : Scope) (frame : Frame) (formals : List Bytes) (body : List t.Stmt) (state : State) → IsHeap program state.heap →
-    IsFrame state.heap static frame → AreNew static formals → AreStated body (with_formals static formals) → IsFine program state.heap (closed frame formals body state)
-closed_fine program static frame formals body state is f new all =
-    let held : Held = record { method = frame.method; arguments = frame.arguments; formals = formals; body = record { 0 = body }; home = frame.home; scope = frame.scope } in
-    let holds : IsHeld state.heap held = record { given = f.given_values; bindings = f.bindings; static = static; covers = f.covers; fresh_formals = new; stated = all } in
-    (heap_with_held program state.heap held is holds, later_held state.heap held, omega (arith, length_push state.heap.closures held))
+closed_fine : (program : List Decl) (static : Scope) (frame : Frame) (formals : List Bytes) (body : List t.Stmt) (state : State) →
+    IsRunning program state.heap static frame state → AreNew static formals → AreStated body (with_formals static formals) →
+    IsFine program state.heap (closed frame formals body state)
+closed_fine program static frame formals body state running new all =
+    let held : Held = record {
+      method = frame.method;
+      arguments = frame.arguments;
+      formals = formals;
+      body = record { 0 = body };
+      home = frame.home;
+      scope = frame.scope;
+    } in
+    let holds : IsHeld state.heap held = record {
+      given = running.activation.given_values;
+      bindings = running.activation.bindings;
+      static = static;
+      covers = running.activation.covers;
+      fresh_formals = new;
+      stated = all;
+    } in
+    (heap_with_held program state.heap held running.sound holds, later_held state.heap held, omega (arith, length_push state.heap.closures held))
+
+-- as many keys as names, each of a slot that objects of the class have
+record AreKeys (program : List Decl) (class : Bytes) (names : List Bytes) (keys : List FieldKey) : Type 0 where
+  pub slots : list_all (λ key. is_some (slot key (fresh_slots program class))) keys ≡ true
+  pub count : length keys ≡ length names
 
 -- a constructor tries its names, and makes an object that is sound
 keys_fine : (program : List Decl) (old : Heap) (name : Bytes) (names : List Bytes) (go : List FieldKey → Done) (state : State) →
-    ((keys : List FieldKey) → IsFine program old (go keys)) → IsFine program old (keys_of program name names go state)
-keys_fine program old name [] go state next = next []
+    ((keys : List FieldKey) → AreKeys program name names keys → IsFine program old (go keys)) → IsFine program old (keys_of program name names go state)
+keys_fine program old name [] go state next = next [] (record { slots = refl; count = refl })
 keys_fine program old name (first ∷ names) go state next =
-    by (field_at program name first) (λ key. keys_fine program old name names (λ keys. go (key ∷ keys)) state (λ keys. next (key ∷ keys)))
+    by (field_at program name first) refl (λ key has. keys_fine program old name names (λ keys. go (key ∷ keys)) state (λ keys all.
+    next (key ∷ keys) (record {
+      slots = and_from (is_some (slot key (fresh_slots program name))) (list_all (λ own. is_some (slot own (fresh_slots program name))) keys) has all.slots;
+      count = ap suc all.count;
+    })))
   where
-    by : (o : Option FieldKey) → ((key : FieldKey) → IsFine program old (keys_of program name names (λ keys. go (key ∷ keys)) state)) →
+    by : (o : Option FieldKey) → field_at program name first ≡ o →
+        ((key : FieldKey) → is_some (slot key (fresh_slots program name)) ≡ true →
+        IsFine program old (keys_of program name names (λ keys. go (key ∷ keys)) state)) →
         IsFine program old (elim o [ Some key ↦ keys_of program name names (λ keys. go (key ∷ keys)) state | None ↦ Stops (Fails (e.NoField first)) state ])
-    by (Some key) more = more key
-    by None more = tt
+    by (Some key) same more = more key (meant_has_slot program name first key same)
+    by None same more = tt
 
 constructing_fine : (program : List Decl) (old : Heap) (name : Bytes) (names : List Bytes) (go : List FieldKey → Done) (state : State) →
-    (is_made program name ≡ true → (keys : List FieldKey) → IsFine program old (go keys)) → IsFine program old (constructing program name names go state)
+    (is_made program name ≡ true → (keys : List FieldKey) → AreKeys program name names keys → IsFine program old (go keys)) →
+    IsFine program old (constructing program name names go state)
 constructing_fine program old name names go state next = by (is_made program name) refl
   where
-    by : (b : Bool) → is_made program name ≡ b → IsFine program old (if b then keys_of program name names go state else Stops (Fails (e.UnknownObject name)) state)
+    by : (b : Bool) → is_made program name ≡ b →
+        IsFine program old (if b then keys_of program name names go state else Stops (Fails (e.UnknownObject name)) state)
     by true h = keys_fine program old name names go state (next h)
     by false h = tt
 
@@ -200,87 +242,135 @@ not_unnamed name h =
     by false false true d h = h
     by false false false d h = refl
 
-made_fine : (program : List Decl) → IsProgram program → (name : Bytes) → is_made program name ≡ true → (keys : List FieldKey) (values : List Value) (state : State) →
-    IsHeap program state.heap → AreSound state.heap values → IsFine program state.heap (made program name keys values state)
-made_fine program well name h keys values state is all =
-    let slots = filled keys values (fresh_slots program name) in
-    let thing : Thing = record { class = name; slots = slots } in (
+-- what a constructor makes an object of
+record IsMaking (program : List Decl) (class : Bytes) (keys : List FieldKey) (values : List Value) : Type 0 where
+  pub is_class : is_made program class ≡ true
+  pub fills : are_filled keys values (fresh_slots program class) ≡ true
+
+making : (program : List Decl) (class : Bytes) (names : List Bytes) (keys : List FieldKey) (values : List Value) → is_made program class ≡ true →
+    AreKeys program class names keys → length values ≡ length names → IsMaking program class keys values
+making program class names keys values h all count = record {
+  is_class = h;
+  fills = and_from (list_all (λ key. is_some (slot key (fresh_slots program class))) keys) (length keys == length values) all.slots
+      (eq-eqb (length keys) (length values) (all.count ∙ sym count));
+}
+
+made_fine : (program : List Decl) → IsProgram program → (name : Bytes) (keys : List FieldKey) (values : List Value) → IsMaking program name keys values →
+    (state : State) → IsHeap program state.heap → AreSound state.heap values → IsFine program state.heap (made program name keys values state)
+made_fine program well name keys values h state is all = by (are_filled keys values (fresh_slots program name)) h.fills
+  where
+    thing : Thing
+    thing = record { class = name; slots = filled keys values (fresh_slots program name) }
+
+    by : (b : Bool) → b ≡ true →
+        IsFine program state.heap (if b then Gives (v.Object (length state.heap.objects)) (with_object state thing) else Stops Stuck state)
+    by true e = (
       heap_with_thing program state.heap thing is
           (filled_sound program state.heap name keys values all (fresh_slots program name) (fresh_sound program well is.begun name)),
       later_thing state.heap thing,
-      (name, mapped_behind class state.heap.objects thing, not_unnamed name (not-true (is_name_of sealed name) (and_parts (is_name_of (plain_names program) name) _ h).1)),
+      (
+        name,
+        mapped_behind class state.heap.objects thing,
+        not_unnamed name (not-true (is_name_of sealed name) (and_parts (is_name_of (plain_names program) name) _ h.is_class).1),
+      ),
     )
+    by false e = absurd (false≢true e)
 
 module _ (program : List Decl) (well : IsProgram program) (lower : Allowance) (fine : AreFine program lower) where
   mutual
-    expression_fine : (a : x.Expr) (static : Scope) → IsWritten a static → (frame : Frame) (state : State) → IsHeap program state.heap → IsFrame state.heap static frame →
-        IsFine program state.heap (expression program a lower frame state)
+    pub expression_fine : (a : x.Expr) (static : Scope) → IsWritten a static → (frame : Frame) (state : State) → IsHeap program state.heap →
+        IsFrame state.heap static frame → IsFine program state.heap (expression program a lower frame state)
     expression_fine (x.Int n) static w frame state is f = (is, as_late state.heap, tt)
     expression_fine (x.Text bytes) static w frame state is f = (is, as_late state.heap, tt)
     expression_fine (x.Name name) static w frame state is f =
         named_fine program name (bound name frame.scope) state is (bound_sound state.heap frame.scope f.bindings name)
     expression_fine (x.Closure' formals shape row) static w frame state is f =
-        closed_fine program static frame formals (statements_of row) state is f w.0 (stated row (with_formals static formals) w.2)
+        closed_fine program static frame formals (statements_of row) state (record { sound = is; activation = f; since = as_late state.heap })
+        w.0 (stated row (with_formals static formals) w.2)
     expression_fine x.Resend static w frame state is f = call_fine program lower fine _ state is f.given_values
     expression_fine (x.Send' selector shape row) static w frame state is f =
-        parts_fine row static w.2 frame state is f (as_late state.heap) _ (λ values state' is' later all.
+        parts_fine row static w.2 frame state (record { sound = is; activation = f; since = as_late state.heap }) _ (λ values state' is' later all.
         fine_later program later _ (call_fine program lower fine _ state' is' all))
     expression_fine (x.New' name shape row) static w frame state is f =
-        constructing_fine program state.heap name (field_names row) _ state (λ h keys.
-        fields_fine row [] static w.1 frame state is f (as_late state.heap) (made program name keys) (λ values state' is' later all.
-        fine_later program later (made program name keys values state') (made_fine program well name h keys values state' is' all)))
+        constructing_fine program state.heap name (field_names row) _ state (λ h keys are.
+        fields_fine row [] static w.1 frame state (record { sound = is; activation = f; since = as_late state.heap }) (made program name keys)
+        (λ values count state' is' later all.
+        fine_later program later (made program name keys values state')
+        (made_fine program well name keys values (making program name (field_names row) keys values h are count) state' is' all)))
 
     -- parts in order, and then what follows
-    parts_fine : {n : _} (row : x.Row_of-Expr n) (static : Scope) → AreWritten row static → (frame : Frame) (state : State) → IsHeap program state.heap →
-        IsFrame state.heap static frame → {old : Heap} → IsLater old state.heap → (go : List Value → State → Done) →
-        ((values : List Value) (state' : State) → IsHeap program state'.heap → IsLater state.heap state'.heap → AreSound state'.heap values → IsFine program old (go values state')) →
-        IsFine program old (parts program row lower frame state go)
-    parts_fine x.end_of-Expr static w frame state is f since go next = next [] state is (as_late state.heap) tt
-    parts_fine (x.more_of-Expr part rest) static w frame state is f since go next =
-        after_fine program since (expression program part lower frame state) _ (expression_fine part static w.0 frame state is f) (λ value state' is' later s.
-        parts_fine rest static w.1 frame state' is' (still_frame later f) (later_on since later) (λ values. go (value ∷ values)) (λ values state'' is'' later' all.
+    parts_fine : {n : _} (row : x.Row_of-Expr n) (static : Scope) → AreWritten row static → (frame : Frame) (state : State) → {old : Heap} →
+        IsRunning program old static frame state → (go : List Value → State → Done) →
+        ((values : List Value) (state' : State) → IsHeap program state'.heap → IsLater state.heap state'.heap → AreSound state'.heap values →
+        IsFine program old (go values state')) → IsFine program old (parts program row lower frame state go)
+    parts_fine x.end_of-Expr static w frame state running go next = next [] state running.sound (as_late state.heap) tt
+    parts_fine (x.more_of-Expr part rest) static w frame state running go next =
+        after_fine program running.since (expression program part lower frame state) _
+        (expression_fine part static w.0 frame state running.sound running.activation) (λ value state' is' later s.
+        parts_fine rest static w.1 frame state' (runs_on running is' later) (λ values. go (value ∷ values)) (λ values state'' is'' later' all.
         next (value ∷ values) state'' is'' (later_on later later') (still_sound later' value s, all)))
 
-    fields_fine : {n : _} (row : x.Row_of-Expr-New-1-2 n) (names : List Bytes) (static : Scope) → AreFieldsWritten row names static → (frame : Frame) (state : State) →
-        IsHeap program state.heap → IsFrame state.heap static frame → {old : Heap} → IsLater old state.heap → (go : List Value → State → Done) →
-        ((values : List Value) (state' : State) → IsHeap program state'.heap → IsLater state.heap state'.heap → AreSound state'.heap values → IsFine program old (go values state')) →
-        IsFine program old (fields program row lower frame state go)
-    fields_fine x.end_of-Expr-New-1-2 names static w frame state is f since go next = next [] state is (as_late state.heap) tt
-    fields_fine (x.more_of-Expr-New-1-2 name part rest) names static w frame state is f since go next =
-        after_fine program since (expression program part lower frame state) _ (expression_fine part static w.3 frame state is f) (λ value state' is' later s.
-        fields_fine rest (names ++ name ∷ []) static w.4 frame state' is' (still_frame later f) (later_on since later) (λ values. go (value ∷ values)) (λ values state'' is'' later' all.
-        next (value ∷ values) state'' is'' (later_on later later') (still_sound later' value s, all)))
+    fields_fine : {n : _} (row : x.Row_of-Expr-New-1-2 n) (names : List Bytes) (static : Scope) → AreFieldsWritten row names static →
+        (frame : Frame) (state : State) →
+        {old : Heap} → IsRunning program old static frame state → (go : List Value → State → Done) →
+        ((values : List Value) → length values ≡ length (field_names row) → (state' : State) → IsHeap program state'.heap → IsLater state.heap state'.heap →
+        AreSound state'.heap values → IsFine program old (go values state')) → IsFine program old (fields program row lower frame state go)
+    fields_fine x.end_of-Expr-New-1-2 names static w frame state running go next = next [] refl state running.sound (as_late state.heap) tt
+    fields_fine (x.more_of-Expr-New-1-2 name part rest) names static w frame state running go next =
+        after_fine program running.since (expression program part lower frame state) _
+        (expression_fine part static w.3 frame state running.sound running.activation) (λ value state' is' later s.
+        fields_fine rest (names ++ name ∷ []) static w.4 frame state' (runs_on running is' later) (λ values. go (value ∷ values))
+        (λ values count state'' is'' later' all.
+        next (value ∷ values) (ap suc count) state'' is'' (later_on later later') (still_sound later' value s, all)))
 
   -- ---- statements
 
   -- The statements of a body are fine.
-  pub statements_fine : (body : List t.Stmt) (static : Scope) → AreStated body static → (frame : Frame) (last : Value) (state : State) → IsHeap program state.heap →
-      IsFrame state.heap static frame → IsSound state.heap last → {old : Heap} → IsLater old state.heap → IsFine program old (statements program body lower frame last state)
-  statements_fine [] static w frame last state is f s since = (is, since, s)
-  statements_fine (t.Let name part ∷ rest) static w frame last state is f s since =
-      after_fine program since (expression program part lower frame state) _ (expression_fine part static w.0.2 frame state is f) (λ value state' is' later s'.
-      statements_fine rest ((name, false) ∷ static) w.2 (in_scope frame name (l.Plain value)) (nil program) state' is'
-      (let_frame (still_frame later f) name value w.0.1 s') (nil_sound program well is'.begun) (later_on since later))
-  statements_fine (t.LetVar name part ∷ rest) static w frame last state is f s since =
-      after_fine program since (expression program part lower frame state) _ (expression_fine part static w.0.2 frame state is f) (λ value state' is' later s'.
+  pub statements_fine : (body : List t.Stmt) (static : Scope) → AreStated body static → (frame : Frame) (last : Value) (state : State) → {old : Heap} →
+      IsRunning program old static frame state → IsSound state.heap last → IsFine program old (statements program body lower frame last state)
+  statements_fine [] static w frame last state running s = (running.sound, running.since, s)
+  statements_fine (t.Let name part ∷ rest) static w frame last state running s =
+      after_fine program running.since (expression program part lower frame state) _
+      (expression_fine part static w.0.2 frame state running.sound running.activation) (λ value state' is' later s'.
+      statements_fine rest ((name, false) ∷ static) w.2 (in_scope frame name (l.Plain value)) (nil program) state'
+      (record {
+        sound = is';
+        activation = let_frame (still_frame later running.activation) name value w.0.1 s';
+        since = later_on running.since later;
+      }) (nil_sound program well is'.begun))
+  statements_fine (t.LetVar name part ∷ rest) static w frame last state running s =
+      after_fine program running.since (expression program part lower frame state) _
+      (expression_fine part static w.0.2 frame state running.sound running.activation) (λ value state' is' later s'.
       let more = later_value state'.heap value in
       statements_fine rest ((name, true) ∷ static) w.2 (in_scope frame name (l.Cell (length state'.heap.cells))) (nil program)
       (record state' { heap = with_value state'.heap value })
-      (heap_with_value program state'.heap value is' s')
-      (var_frame (still_frame more (still_frame later f)) name (length state'.heap.cells) (omega (arith, length_push state'.heap.cells value)))
-      (nil_sound program well (later_on is'.begun more)) (later_on since (later_on later more)))
-  statements_fine (t.Set name part ∷ rest) static w frame last state is f s {old} since =
-      let r = f.covers name w.0.1 in
-      after_fine program since (expression program part lower frame state) _ (expression_fine part static w.0.2 frame state is f) (λ value state' is' later s'.
+      (record {
+        sound = heap_with_value program state'.heap value is' s';
+        activation = var_frame (still_frame more (still_frame later running.activation)) name (length state'.heap.cells)
+            (omega (arith, length_push state'.heap.cells value));
+        since = later_on running.since (later_on later more);
+      }) (nil_sound program well (later_on is'.begun more)))
+  statements_fine (t.Set name part ∷ rest) static w frame last state {old} running s =
+      let r = running.activation.covers name w.0.1 in
+      after_fine program running.since (expression program part lower frame state) _
+      (expression_fine part static w.0.2 frame state running.sound running.activation) (λ value state' is' later s'.
       let more = later_value_at state'.heap r.0 value in
+      let there : r.0 < length state'.heap.cells =
+      subst (λ (o : Option Local). IfSome o (IsLocal state'.heap)) r.1
+      (bound_sound state'.heap frame.scope (still_frame later running.activation).bindings name) in
+      let cell = stands state'.heap.cells r.0 there in
+      let next : State = record state' { heap = with_value_at state'.heap r.0 value } in
       subst (λ (local : Option Local). IsFine program old (assigned local value state' (statements program rest lower frame (nil program)))) (sym r.1)
-      (statements_fine rest static w.2 frame (nil program) (record state' { heap = with_value_at state'.heap r.0 value })
-      (heap_with_value_at program state'.heap r.0 value is' s')
-      (still_frame more (still_frame later f))
-      (nil_sound program well (later_on is'.begun more)) (later_on since (later_on later more))))
-  statements_fine (t.Do part ∷ rest) static w frame last state is f s since =
-      after_fine program since (expression program part lower frame state) _ (expression_fine part static w.0 frame state is f) (λ value state' is' later s'.
-      statements_fine rest static w.2 frame value state' is' (still_frame later f) s' (later_on since later))
-  statements_fine (t.Back part ∷ rest) static w frame last state is f s since =
-      after_fine program since (expression program part lower frame state) _ (expression_fine part static w.0 frame state is f) (λ value state' is' later s'.
-      (is', later_on since later, s'))
+      (subst (λ (o : Option Value). IsFine program old
+      (elim o [ Some own ↦ statements program rest lower frame (nil program) next | None ↦ Stops Stuck state' ])) (sym cell.1)
+      (statements_fine rest static w.2 frame (nil program) next
+      (runs_on running (heap_with_value_at program state'.heap r.0 value is' s') (later_on later more))
+      (nil_sound program well (later_on is'.begun more)))))
+  statements_fine (t.Do part ∷ rest) static w frame last state running s =
+      after_fine program running.since (expression program part lower frame state) _
+      (expression_fine part static w.0 frame state running.sound running.activation) (λ value state' is' later s'.
+      statements_fine rest static w.2 frame value state' (runs_on running is' later) s')
+  statements_fine (t.Back part ∷ rest) static w frame last state running s =
+      after_fine program running.since (expression program part lower frame state) _
+      (expression_fine part static w.0 frame state running.sound running.activation) (λ value state' is' later s'.
+      (is', later_on running.since later, s'))

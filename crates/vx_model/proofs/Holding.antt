@@ -24,7 +24,7 @@ abbrev Lets : List Decl → Heap → Value → Bytes → Type 0
 Lets program heap value x = (decl : Decl) → IsIn decl program → is_above program x decl ≡ true → lets_hold program heap value decl ≡ true
 
 -- a test that passes, or need not
-need_not : (a b : Bool) → (a ≡ true → b ≡ true) → (not a || b) ≡ true
+pub need_not : (a b : Bool) → (a ≡ true → b ≡ true) → (not a || b) ≡ true
 need_not true b f = f refl
 need_not false b f = refl
 
@@ -50,8 +50,8 @@ there : (program : List Decl) (x : Bytes) (decl : Decl) → IsIn decl program �
 there program x decl i n = any_in (is_named x) program decl i n
 
 -- what is a parent of a plain object is one
-parent_plain : (program : List Decl) → IsProgram program → (x parent : Bytes) (parents : List Bytes) → IsIn (d.Object x parents) program → IsIn parent parents →
-    (others : List Bytes) × IsIn (d.Object parent others) program
+pub parent_plain : (program : List Decl) → IsProgram program → (x parent : Bytes) (parents : List Bytes) → IsIn (d.Object x parents) program →
+    IsIn parent parents → (others : List Bytes) × IsIn (d.Object parent others) program
 parent_plain program is x parent parents i p =
     let r = in_any (is_named parent) program (is.known (d.Object x parents) parent i p) in
     of r.0 r.1 r.2

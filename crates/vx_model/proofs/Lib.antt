@@ -7,6 +7,8 @@ pub mod Choices
 pub mod Lowest
 pub mod Cones
 pub mod Places
+pub mod Predicates
+pub mod Within
 pub mod Grows
 pub mod Further
 pub mod Sound
@@ -18,4 +20,6 @@ pub mod MethodTexts
 pub mod NeverStuck
 pub mod Spellings
 mod Rows
+mod SmallTrees
 mod MeaningRows
+mod ClosureRows

@@ -1,5 +1,5 @@
 -- Objects are sound: those that names mean, those at first, and those whose slots change.
-use Rattle.std.proofs.Common.{◌≡◌, ◌⊎◌, Bool, true, false, List, [], ◌∷◌, map, codes, Option, Some, is_some, refl, sym, ap, ◌∙◌, inl, inr}
+use Rattle.std.proofs.Common.{◌≡◌, ◌⊎◌, Bool, true, false, List, [], ◌∷◌, map, codes, Option, Some, is_some, refl, sym, ap, ◌∙◌, subst, inl, inr}
 use Rattle.std.specs.List.{AllByRecursion, slice_get, position_or_len}
 use Rattle.std.specs.Option.{IfSome}
 use Rattle.std.specs.Prelude.{if◌then◌else◌}
@@ -23,17 +23,19 @@ use Rattle.vx_model.specs.declared.value.Value.{Value}
 use Rattle.vx_model.specs.declared.value.Thing.{Thing}
 use Rattle.vx_model.specs.declared.value.Heap.{Heap}
 use Rattle.vx_model.specs.Order.{plain_names}
-use Rattle.vx_model.specs.Fields.{slots}
+use Rattle.vx_model.specs.Fields.{slots, field_at}
 use Rattle.vx_model.specs.Holds.{same_field, slot}
-use Rattle.vx_model.specs.Values.{object, nil, truth, start_value, fresh, opening, unnamed, is_meant}
+use Rattle.vx_model.specs.Values.{object, nil, truth, start_value, fresh_slots, fresh, opening, unnamed, is_meant}
 use Rattle.vx_model.specs.Meaning.{put_slot, filled}
+use Rattle.vx_model.proofs.Orders.{chains}
 use Rattle.vx_model.proofs.Bases.{in_plain}
+use Rattle.vx_model.proofs.Within.{meant_slot}
 use Rattle.vx_model.proofs.Sound.{IsLater, as_late, class, IsSound, AreSound, IsSlot, IsThing, IsHeap}
 
 -- ---- the objects that names mean
 
 -- the place of a name among others has that name
-placed : (xs : List Bytes) (x : Bytes) → is_name_of xs x ≡ true → slice_get xs (position_or_len (λ y. bytes_eq y x) xs) ≡ Some x
+pub placed : (xs : List Bytes) (x : Bytes) → is_name_of xs x ≡ true → slice_get xs (position_or_len (λ y. bytes_eq y x) xs) ≡ Some x
 placed xs x h =
     let some = in_any (λ y. bytes_eq y x) xs h in
     let first = is_found (λ y. bytes_eq y x) xs some.0 some.1 some.2 in
@@ -41,12 +43,13 @@ placed xs x h =
     sym (find_at (λ y. bytes_eq y x) xs) ∙ first.1 ∙ ap Some (same_bytes first.0 x is.1)
 
 -- the objects at first have the names as their classes
-named_classes : (program : List Decl) (xs : List Bytes) → map class (map (fresh program) xs) ≡ xs
+pub named_classes : (program : List Decl) (xs : List Bytes) → map class (map (fresh program) xs) ≡ xs
 named_classes program [] = refl
 named_classes program (x ∷ xs) = ap (λ (ys : List Bytes). x ∷ ys) (named_classes program xs)
 
 -- What a name in a body means is sound, in whatever heap a program comes to.
-pub meant_sound : (program : List Decl) {heap : Heap} → IsLater (opening program) heap → (x : Bytes) → is_meant program x ≡ true → IsSound heap (object program x)
+pub meant_sound : (program : List Decl) {heap : Heap} → IsLater (opening program) heap → (x : Bytes) → is_meant program x ≡ true →
+    IsSound heap (object program x)
 meant_sound program later x h =
     let both = and_parts (is_name_of (plain_names program) x) _ h in (
       x,
@@ -57,19 +60,20 @@ meant_sound program later x h =
     )
 
 -- the objects of the prelude are there
-nil_there : IsIn (d.Object (codes "nil") (any ∷ [])) prelude
+pub nil_there : IsIn (d.Object (codes "nil") (any ∷ [])) prelude
 unfolding prelude
 nil_there = inr (inr (inr (inr (inr (inl refl)))))
 
-true_there : IsIn (d.Object (codes "true") (codes "bool" ∷ [])) prelude
+pub true_there : IsIn (d.Object (codes "true") (codes "bool" ∷ [])) prelude
 unfolding prelude
 true_there = inr (inr (inr (inr (inr (inr (inr (inl refl)))))))
 
-false_there : IsIn (d.Object (codes "false") (codes "bool" ∷ [])) prelude
+pub false_there : IsIn (d.Object (codes "false") (codes "bool" ∷ [])) prelude
 unfolding prelude
 false_there = inr (inr (inr (inl refl)))
 
-meant : (program : List Decl) → IsProgram program → (x : Bytes) (parents : List Bytes) → IsIn (d.Object x parents) prelude → is_name_of unnamed x ≡ false → is_meant program x ≡ true
+pub meant : (program : List Decl) → IsProgram program → (x : Bytes) (parents : List Bytes) → IsIn (d.Object x parents) prelude →
+    is_name_of unnamed x ≡ false → is_meant program x ≡ true
 meant program is x parents i other =
     and_from (is_name_of (plain_names program) x) _
     (any_in (λ y. bytes_eq y x) (plain_names program) x (in_plain program x parents (is.has_prelude (d.Object x parents) i)) (bytes_same x x refl))
@@ -82,7 +86,8 @@ pub truth_sound : (program : List Decl) → IsProgram program → {heap : Heap} 
 truth_sound program is later true = meant_sound program later (codes "true") (meant program is (codes "true") (codes "bool" ∷ []) true_there refl)
 truth_sound program is later false = meant_sound program later (codes "false") (meant program is (codes "false") (codes "bool" ∷ []) false_there refl)
 
-start_sound : (program : List Decl) → IsProgram program → {heap : Heap} → IsLater (opening program) heap → (start : Start) → IsSound heap (start_value program start)
+start_sound : (program : List Decl) → IsProgram program → {heap : Heap} → IsLater (opening program) heap → (start : Start) →
+    IsSound heap (start_value program start)
 start_sound program is later s.Nil = nil_sound program is later
 start_sound program is later s.True = truth_sound program is later true
 start_sound program is later s.False = truth_sound program is later false
@@ -100,9 +105,12 @@ found_first false x rest (inl e) = absurd (false≢true e)
 found_first false x rest (inr h) = h
 
 same_field_itself : (a b : FieldKey) → a ≡ b → same_field a b ≡ true
-same_field_itself a b e = ap (same_field a) (sym e) ∙ and_from (bytes_eq a.name a.name) (bytes_eq a.specialiser a.specialiser) (bytes_same a.name a.name refl) (bytes_same a.specialiser a.specialiser refl)
+same_field_itself a b e =
+    ap (same_field a) (sym e)
+    ∙ and_from (bytes_eq a.name a.name) (bytes_eq a.specialiser a.specialiser) (bytes_same a.name a.name refl) (bytes_same a.specialiser a.specialiser refl)
 
-has_begun : (program : List Decl) (fields : List (FieldKey × Start)) (field : FieldKey × Start) → IsIn field fields → is_some (slot field.0 (begun_slots program fields)) ≡ true
+has_begun : (program : List Decl) (fields : List (FieldKey × Start)) (field : FieldKey × Start) → IsIn field fields →
+    is_some (slot field.0 (begun_slots program fields)) ≡ true
 has_begun program [] field i = absurd i
 has_begun program (own ∷ fields) field (inl e) =
     found_first (same_field own.0 field.0) (start_value program own.1) (slot field.0 (begun_slots program fields))
@@ -116,19 +124,28 @@ begun_sound program is later [] = tt
 begun_sound program is later (field ∷ fields) = (start_sound program is later field.1, begun_sound program is later fields)
 
 -- A fresh object is sound,
-pub fresh_sound : (program : List Decl) → IsProgram program → {heap : Heap} → IsLater (opening program) heap → (x : Bytes) → IsThing program heap (fresh program x)
+pub fresh_sound : (program : List Decl) → IsProgram program → {heap : Heap} → IsLater (opening program) heap → (x : Bytes) →
+    IsThing program heap (fresh program x)
 fresh_sound program is later x = record {
   has_slots = has_begun program (slots program x);
   values = begun_sound program is later (slots program x);
 }
 
--- and stays so with another value in a slot,
+-- and has a slot for the field that a name means for its class.
+pub meant_has_slot : (program : List Decl) (x name : Bytes) (key : FieldKey) → field_at program x name ≡ Some key →
+    is_some (slot key (fresh_slots program x)) ≡ true
+meant_has_slot program x name key e =
+    let own = meant_slot program chains x name key e in
+    subst (λ z. is_some (slot z (fresh_slots program x)) ≡ true) own.2 (has_begun program (slots program x) own.0 own.1)
+
+-- It stays sound with another value in a slot,
 kept_first : {X : Type 0} (b : Bool) (x y : X) (old new : Option X) → (is_some old ≡ true → is_some new ≡ true) → is_some (if b then Some x else old) ≡ true →
     is_some (if b then Some y else new) ≡ true
 kept_first true x y old new f h = refl
 kept_first false x y old new f h = f h
 
-still_slot : (key own : FieldKey) (value : Value) (slots : List (FieldKey × Value)) → is_some (slot key slots) ≡ true → is_some (slot key (put_slot own value slots)) ≡ true
+still_slot : (key own : FieldKey) (value : Value) (slots : List (FieldKey × Value)) → is_some (slot key slots) ≡ true →
+    is_some (slot key (put_slot own value slots)) ≡ true
 still_slot key own value [] h = h
 still_slot key own value (first ∷ rest) h = by (same_field first.0 own) (still_slot key own value rest)
   where
@@ -142,7 +159,8 @@ still_values : (heap : Heap) (own : FieldKey) (value : Value) → IsSound heap v
 still_values heap own value s [] all = tt
 still_values heap own value s (first ∷ rest) all = by (same_field first.0 own) (still_values heap own value s rest all.1)
   where
-    by : (b : Bool) → AllByRecursion (IsSlot heap) (put_slot own value rest) → AllByRecursion (IsSlot heap) (if b then (first.0, value) ∷ rest else first ∷ put_slot own value rest)
+    by : (b : Bool) → AllByRecursion (IsSlot heap) (put_slot own value rest) →
+        AllByRecursion (IsSlot heap) (if b then (first.0, value) ∷ rest else first ∷ put_slot own value rest)
     by true more = (s, all.1)
     by false more = (all.0, more)
 
@@ -154,7 +172,8 @@ put_sound program heap thing is key value s = record {
 }
 
 -- or in several.
-pub filled_sound : (program : List Decl) (heap : Heap) (x : Bytes) (keys : List FieldKey) (values : List Value) → AreSound heap values → (slots : List (FieldKey × Value)) →
+pub filled_sound : (program : List Decl) (heap : Heap) (x : Bytes) (keys : List FieldKey) (values : List Value) → AreSound heap values →
+    (slots : List (FieldKey × Value)) →
     IsThing program heap (record { class = x; slots = slots }) → IsThing program heap (record { class = x; slots = filled keys values slots })
 filled_sound program heap x [] values all slots is = is
 filled_sound program heap x (key ∷ keys) [] all slots is = is

@@ -2,6 +2,7 @@ pub mod Order
 pub mod Walks
 pub mod Fields
 pub mod Holds
+pub mod Kinds
 pub mod Lookup
 pub mod Values
 pub mod Primitives

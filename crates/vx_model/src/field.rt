@@ -1,15 +1,20 @@
 //! The fields of classes, and the slots of objects.
-ghost use Rattle.std.specs.Prelude.{◌≡◌, [], ◌∷◌, ℕ};
+ghost use Rattle.std.specs.Prelude.{◌≡◌, ◌||◌, [], ◌∷◌, not, IfOk};
+ghost use Rattle.std.specs.List.{list_all};
 ghost use Rattle.std.specs.Option.{option_copied, option_to_list};
 ghost use Rattle.vx_names.specs.declared.key.FieldKey.{FieldKey};
-ghost use Rattle.vx_model.specs.Fields.{fields, field_at, is_lowest, keys_above, keys_named, slots};
+ghost use Rattle.vx_program.specs.Program.{is_predicate_there, leads};
+ghost use Rattle.vx_model.specs.Order.{plain_names};
+ghost use Rattle.vx_model.specs.Fields.{field_at, is_lowest, keys_above, may, slots};
 ghost use Rattle.vx_model.specs.Holds.{same_field, slot, slot_of};
 
 use crate::above::Above;
 use crate::value::{Heap, Value};
+use sqlite_items::Items;
+use std::alloc::{AllocError, Global};
 use vx_names::{FieldKey, Name};
 use vx_program::Program;
-use vx_syntax::Decl;
+use vx_syntax::{Decl, Start};
 
 /// The field that the name means for a class: of those whose specialisers are above the class, the one whose specialiser
 /// has all the others above it.
@@ -51,6 +56,67 @@ fn is_lowest(program: &Program, above: &Above<'_>, name: &Name, key: &FieldKey) 
     for decl in program.declarations() {
         if let Some(other) = key_above(above, decl, name) {
             if !own.leads_to(other.specialiser.bytes()) {
+                return false;
+            }
+        }
+    }
+    true
+}
+
+/// The slots of an object of the class, in key order, each with what it has at first.
+pub fn slots(
+    alloc: Global,
+    program: &Program,
+    class: &Name,
+) -> Result<Items<(FieldKey, Start)>, AllocError>
+    ensures { IfOk result (λ found. found ≡ slots program.now class.now) }
+{
+    let above = Above::new(program, class.bytes());
+    let mut slots = Items::new(alloc);
+    for decl in program.declarations() {
+        if let Decl::Field { key, start, .. } = decl {
+            if may(program, &above, &key.specialiser) {
+                let key = key.copy(alloc)?;
+                slots.push((key, start.copy(alloc)?))?;
+            }
+        }
+    }
+    Ok(slots)
+}
+
+// Whether an object of the class may come to count as the object or predicate.
+fn may(program: &Program, class: &Above<'_>, x: &Name) -> bool
+    requires { class.now.0 ≡ program.now }
+    ensures { result ≡ may program.now class.now.1 x.now }
+{
+    if is_predicate_there(program, x) {
+        are_above(program, class, x)
+    } else {
+        class.leads_to(x.bytes())
+    }
+}
+
+fn is_predicate_there(program: &Program, x: &Name) -> bool
+    ensures { result ≡ is_predicate_there program.now x.now }
+{
+    match program.place(x.bytes()) {
+        Some(place) => match &program.declarations()[place] {
+            Decl::Predicate { .. } => true,
+            _ => false,
+        },
+        None => false,
+    }
+}
+
+// Whether all plain objects above the predicate are above the class.
+fn are_above(program: &Program, class: &Above<'_>, x: &Name) -> bool
+    requires { class.now.0 ≡ program.now }
+    ensures { result ≡ list_all (λ plain. not (leads program.now x.now plain) || leads program.now class.now.1 plain) (plain_names program.now) }
+{
+    let own = Above::new(program, x.bytes());
+    for decl in program.declarations() {
+        if let Decl::Object { name, .. } = decl {
+            if own.leads_to(name.bytes()) && !class.leads_to(name.bytes()) {
                 return false;
             }
         }

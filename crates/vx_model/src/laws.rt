@@ -5,14 +5,15 @@ ghost use Rattle.vx_names.specs.declared.key.Selector.{Selector};
 ghost use Rattle.vx_names.specs.declared.key.FieldKey.{FieldKey};
 ghost use Rattle.vx_names.specs.declared.key.MethodKey.{MethodKey};
 ghost use Rattle.vx_syntax.specs.declared.decl.Decl.{Decl};
+ghost use Rattle.vx_syntax.specs.declared.decl.Start.{Start};
 ghost use Rattle.vx_syntax.specs.Expressions.{Bytes};
 ghost use Rattle.vx_program.specs.Program.{IsProgram, Leads, is_there};
 ghost use Rattle.vx_model.specs.declared.look.Look.TheVariants.{One, None, Many};
 ghost use Rattle.vx_model.specs.declared.value.Heap.{Heap};
 ghost use Rattle.vx_model.specs.declared.value.Value.{Value};
 ghost use Rattle.vx_model.specs.Order.{IsBase, base, cone, plain_names, up};
-ghost use Rattle.vx_model.specs.Fields.{IsLowest, field_at, keys_above};
-ghost use Rattle.vx_model.specs.Holds.{Holds, holds};
+ghost use Rattle.vx_model.specs.Fields.{IsLowest, field_at, fields, keys_above, may, slots};
+ghost use Rattle.vx_model.specs.Holds.{Holds, class_of, holds};
 ghost use Rattle.vx_model.specs.Lookup.{IsBest, applicable, is_more_specific, lookup};
 
 use vx_program::chains_are_found;
@@ -53,6 +54,19 @@ pub fn holding_is_found()
 pub fn fields_are_lowest()
     ensures { (program : List Decl) (class name : Bytes) (key : FieldKey) → IsProgram program →
         (field_at program class name ≡ Some key) ↔ IsLowest program (keys_above program class name program) key }
+{
+    chains_are_found();
+}
+
+/// What a value counts as, an object of its class may count as, and has slots for: those of all fields of it. So has it for the
+/// fields that names mean.
+pub fn slots_cover_holding()
+    ensures may { (program : List Decl) (heap : Heap) (value : Value) (x : Bytes) → IsProgram program → holds program heap value x ≡ true →
+        may program (class_of heap value) x ≡ true }
+    ensures slots { (program : List Decl) (class : Bytes) (field : FieldKey × Start) →
+        IsIn field (slots program class) ↔ (IsIn field (fields program) × (may program class field.0.specialiser ≡ true)) }
+    ensures meant { (program : List Decl) (class name : Bytes) (key : FieldKey) → field_at program class name ≡ Some key →
+        (start : Start) × IsIn (key, start) (slots program class) }
 {
     chains_are_found();
 }

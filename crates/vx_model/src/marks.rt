@@ -5,7 +5,7 @@ use std::marker::Model;
 use vx_program::MAX_DECLARATIONS;
 
 /// The most declarations that a program has, with the prelude's.
-pub const PLACES: usize = 4_117;
+pub const PLACES: usize = 4_118;
 
 /// A mark for each place, which contracts see as a list. They lie in the value itself and take no memory.
 #[derive(Drop)]

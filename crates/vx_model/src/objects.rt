@@ -1,16 +1,15 @@
 //! The objects that a program begins with.
 ghost use Rattle.std.specs.Prelude.{◌≡◌, ◌++◌, codes, map, IfOk};
-ghost use Rattle.std.specs.Str.{bytes_eq};
 ghost use Rattle.vx_program.specs.Program.{is_name_of};
 ghost use Rattle.vx_model.specs.Order.{plain_names};
 ghost use Rattle.vx_model.specs.Values.{object, nil, truth, start_value, fresh_slots, fresh, opening, is_meant, is_made, unnamed};
 
-use crate::above::Above;
+use crate::field::slots;
 use crate::value::{Heap, Thing, Value};
 use sqlite_items::Items;
 use std::alloc::{AllocError, Global};
 use vx_names::Name;
-use vx_program::{Program, is_sealed};
+use vx_program::{Program, is_sealed, is_spelled};
 use vx_syntax::{Decl, Start};
 
 /// The plain object of the name.
@@ -65,15 +64,11 @@ pub fn is_made(program: &Program, class: &Name) -> bool
 pub fn fresh(alloc: Global, program: &Program, class: &Name) -> Result<Thing, AllocError>
     ensures { IfOk result (λ thing. thing ≡ fresh program.now class.now) }
 {
-    let above = Above::new(program, class.bytes());
+    let fields = slots(alloc, program, class)?;
     let mut slots = Items::new(alloc);
-    for decl in program.declarations() {
-        if let Decl::Field { key, start, .. } = decl {
-            if above.leads_to(key.specialiser.bytes()) {
-                let key = key.copy(alloc)?;
-                slots.push((key, start_value(alloc, program, start)?))?;
-            }
-        }
+    for field in fields.as_slice() {
+        let key = field.0.copy(alloc)?;
+        slots.push((key, start_value(alloc, program, &field.1)?))?;
     }
     let class = class.copy(alloc)?;
     Ok(Thing { class, slots })
@@ -115,12 +110,6 @@ fn is_unnamed(x: &[u8]) -> bool
     ensures { result ≡ is_name_of unnamed x.now }
 {
     is_spelled(x, b"int") | (is_spelled(x, b"string") | is_spelled(x, b"closure"))
-}
-
-fn is_spelled(x: &[u8], bytes: &[u8]) -> bool
-    ensures { result ≡ bytes_eq bytes.now x.now }
-{
-    bytes == x
 }
 
 // Whether a plain object has the name.

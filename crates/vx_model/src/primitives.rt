@@ -30,6 +30,24 @@ pub enum Deed {
     Lacks,
 }
 
+impl Deed {
+    pub fn copy(&self, alloc: Global) -> Result<Deed, AllocError>
+        ensures { IfOk result (λ what. what ≡ self.now) }
+    {
+        match self {
+            Deed::Answers(value) => Ok(Deed::Answers(value.copy(alloc)?)),
+            Deed::Prints(line) => Ok(Deed::Prints(Items::from_slice(alloc, line.as_slice())?)),
+            Deed::Breaks(error) => Ok(Deed::Breaks(error.copy(alloc)?)),
+            Deed::Evaluates(place, values) => {
+                let values = copy_values(alloc, values.as_slice())?;
+                Ok(Deed::Evaluates(*place, values))
+            }
+            Deed::Repeats(place) => Ok(Deed::Repeats(*place)),
+            Deed::Lacks => Ok(Deed::Lacks),
+        }
+    }
+}
+
 /// What the primitive of the number does with these arguments.
 pub fn perform(
     alloc: Global,

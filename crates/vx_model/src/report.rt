@@ -17,7 +17,7 @@ pub enum RunError {
     DivideByZero,
     /// A closure returned from an activation that has ended.
     DeadReturn,
-    /// A constructor names a field that the class has not.
+    /// A constructor names a field that the class has not, or a field is read or set of a value that is no object.
     NoField(Name),
     /// A body names no value.
     UnknownObject(Name),

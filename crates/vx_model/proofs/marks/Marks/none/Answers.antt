@@ -4,7 +4,7 @@ use Rattle.vx_lists.proofs.Places.{none_marked}
 use Rattle.vx_model.proofs.marks.Marks.none.Goals as goal
 
 pub returns-clause-none : goal.returns-clause-none
-returns-clause-none c = none_marked 4117
+returns-clause-none c = none_marked 4118
 
 pub returns-clause-places : goal.returns-clause-places
-returns-clause-places c = length-replicate 4117 false
+returns-clause-places c = length-replicate 4118 false
