@@ -1,6 +1,10 @@
 pub mod Bindings
-pub mod Calls
-pub mod PlainRows
+pub mod Entering
+pub mod Formals
+pub mod Keys
+pub mod Parts
 pub mod Rows
 pub mod Sizes
 pub mod Slots
+pub mod Spends
+pub mod Statements

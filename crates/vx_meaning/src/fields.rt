@@ -1,65 +1,112 @@
 //! Reading and setting the slots of objects.
-ghost use Rattle.std.specs.Prelude.{◌≡◌, [], ◌∷◌, IfOk, OnOk};
+ghost use Rattle.std.specs.Prelude.{◌≡◌, is_some, IfOk, OnOk};
 ghost use Rattle.vx_model.specs.declared.value.Value.TheVariants.{Object};
-ghost use Rattle.vx_model.specs.Meaning.{accessed, filled, put_slot};
+ghost use Rattle.vx_model.specs.Holds.{slot};
+ghost use Rattle.vx_model.specs.Meaning.{are_filled, filled, getting, put, put_in, put_slot, setting};
 ghost use Rattle.vx_meaning.specs.States.{done, state_of};
 
 use crate::memory::{Memory, Outcome};
 use sqlite_items::Items;
 use std::alloc::{AllocError, Global};
-use vx_model::{Value, is_same_field, nil, slot_of};
+use vx_model::{RunError, Value, is_same_field, nil, slot_of};
 use vx_names::FieldKey;
 use vx_program::Program;
 
-/// Reads the field of an object, or sets it, by the number of values.
-pub fn accessed(
+/// Reads the field of an object.
+pub fn get_field(
     alloc: Global,
-    program: &Program,
-    key: &FieldKey,
+    field: &FieldKey,
     values: &[Value],
-    memory: &mut Memory,
+    memory: &Memory,
 ) -> Result<Outcome, AllocError>
-    ensures done { IfOk result (λ outcome. accessed program.now key.now values.now (state_of memory.old) ≡ done outcome memory.new) }
-    ensures closures { memory.new.heap.closures ≡ memory.old.heap.closures }
+    ensures { IfOk result (λ outcome. getting field.now values.now (state_of memory.now) ≡ done outcome memory.now) }
 {
-    match values {
-        [value] => match slot_of(&memory.heap, value, key) {
+    let [value] = values else {
+        return Ok(Outcome::Stuck);
+    };
+    match value {
+        Value::Object(_) => match slot_of(&memory.heap, value, field) {
             Some(found) => Ok(Outcome::Gives(found.copy(alloc)?)),
             None => Ok(Outcome::Stuck),
         },
-        [Value::Object(place), value] => {
-            let value = value.copy(alloc)?;
-            set_field(alloc, program, *place, key, value, memory)
-        }
-        _ => Ok(Outcome::Stuck),
+        _ => Ok(Outcome::Fails(RunError::NoField(field.name.copy(alloc)?))),
     }
 }
 
-// Sets the field of the object at the place.
-fn set_field(
+/// Sets the field of an object.
+pub fn set_field(
     alloc: Global,
     program: &Program,
+    field: &FieldKey,
+    values: &[Value],
+    memory: &mut Memory,
+) -> Result<Outcome, AllocError>
+    ensures done { IfOk result (λ outcome. setting program.now field.now values.now (state_of memory.old) ≡ done outcome memory.new) }
+    ensures closures { memory.new.heap.closures ≡ memory.old.heap.closures }
+{
+    let [own, value] = values else {
+        return Ok(Outcome::Stuck);
+    };
+    match own {
+        Value::Object(place) => {
+            let value = value.copy(alloc)?;
+            put(alloc, program, field, *place, value, memory)
+        }
+        _ => Ok(Outcome::Fails(RunError::NoField(field.name.copy(alloc)?))),
+    }
+}
+
+// Puts the value into a slot of the object at the place that is there.
+fn put(
+    alloc: Global,
+    program: &Program,
+    field: &FieldKey,
     place: u64,
-    key: &FieldKey,
     value: Value,
     memory: &mut Memory,
 ) -> Result<Outcome, AllocError>
-    ensures done { IfOk result (λ outcome. accessed program.now key.now (Object place ∷ value ∷ []) (state_of memory.old) ≡ done outcome memory.new) }
+    ensures done { IfOk result (λ outcome.
+        put_in program.now (put field.now (Object place) value memory.old.heap) (state_of memory.old) ≡ done outcome memory.new) }
     ensures closures { memory.new.heap.closures ≡ memory.old.heap.closures }
 {
     let at = place as usize;
-    match memory.heap.objects.get(at) {
-        Some(thing) => {
-            let mut thing = thing.copy(alloc)?;
-            put_slot(alloc, &mut thing.slots, key, value)?;
-            memory.heap.objects.set(at, thing);
-            Ok(Outcome::Gives(nil(program)))
-        }
-        None => Ok(Outcome::Stuck),
+    let Some(thing) = memory.heap.objects.get(at) else {
+        return Ok(Outcome::Stuck);
+    };
+    if !has_slot(thing.slots.as_slice(), field) {
+        return Ok(Outcome::Stuck);
     }
+    let mut thing = thing.copy(alloc)?;
+    put_slot(alloc, &mut thing.slots, field, value)?;
+    memory.heap.objects.set(at, thing);
+    Ok(Outcome::Gives(nil(program)))
 }
 
-/// Puts the value into the first slot of the key.
+// Whether one of the slots has the key.
+fn has_slot(slots: &[(FieldKey, Value)], key: &FieldKey) -> bool
+    ensures { result ≡ is_some (slot key.now slots.now) }
+{
+    for own in slots {
+        if is_same_field(&own.0, key) {
+            return true;
+        }
+    }
+    false
+}
+
+/// Whether there is a slot for each of the keys, and a value.
+pub fn are_filled(keys: &[FieldKey], values: &[Value], slots: &[(FieldKey, Value)]) -> bool
+    ensures { result ≡ are_filled keys.now values.now slots.now }
+{
+    for key in keys {
+        if !has_slot(slots, key) {
+            return false;
+        }
+    }
+    keys.len() == values.len()
+}
+
+// Puts the value into the first slot of the key.
 fn put_slot(
     alloc: Global,
     slots: &mut Items<(FieldKey, Value)>,

@@ -1,14 +1,14 @@
 //! What programs mean, computed: the evaluation of their text, with an allowance of calls.
 #![tactic(auto)]
 
+mod acts;
 mod evaluate;
 mod fields;
+mod frames;
 mod memory;
-mod plain;
+mod objects;
 mod runs;
 mod scope;
-#[cfg(test)]
-mod tests;
+mod steps;
 
-pub use plain::is_plain;
 pub use runs::mean;

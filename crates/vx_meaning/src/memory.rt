@@ -1,7 +1,8 @@
 //! What an evaluation works on, and how it ends.
+use crate::scope::Scope;
 use sqlite_items::Items;
-use vx_model::{Heap, RunError, Value};
-use vx_names::{FieldKey, Name};
+use vx_model::{Heap, Held, RunError, Value};
+use vx_names::{FieldKey, MethodKey, Name};
 
 /// The heap, the number of the next activation, and the lines printed.
 #[derive(Drop)]
@@ -9,6 +10,16 @@ pub struct Memory {
     pub heap: Heap,
     pub next: u64,
     pub lines: Items<Items<u8>>,
+}
+
+/// An activation of a method, or of a closure in it: the method and its arguments, which a resend passes on, the activation
+/// to which a return leads, and what is in scope.
+#[derive(Drop)]
+pub struct Activation {
+    pub method: MethodKey,
+    pub arguments: Items<Value>,
+    pub home: u64,
+    pub scope: Scope,
 }
 
 /// How an evaluation ended.
@@ -37,4 +48,21 @@ pub enum Flow {
 pub enum Keys {
     All(Items<FieldKey>),
     Missing(Name),
+}
+
+/// A closure with the formals that it is to have, or how the evaluation ended for want of one.
+#[derive(Drop)]
+pub enum Reached {
+    Closure(Held),
+    Ends(Outcome),
+}
+
+/// What a primitive leaves to be done.
+#[derive(Drop)]
+pub enum Act {
+    Ends(Outcome),
+    /// The closure is to be evaluated with these arguments.
+    Evaluates(Held, Items<Value>),
+    /// The closure is to be evaluated again and again.
+    Repeats(Held),
 }

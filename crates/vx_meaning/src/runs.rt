@@ -1,9 +1,8 @@
 //! The meaning of a program.
-ghost use Rattle.std.specs.Prelude.{◌≡◌, List, true, IfOk};
+ghost use Rattle.std.specs.Prelude.{◌≡◌, ◌≤◌, List, IfOk};
 ghost use Rattle.vx_syntax.specs.Expressions.{Bytes};
 ghost use Rattle.vx_model.specs.declared.report.Report.TheVariants as r;
 ghost use Rattle.vx_model.specs.Meaning.{meaning, report};
-ghost use Rattle.vx_meaning.specs.Plain.{is_plain};
 ghost use Rattle.vx_meaning.specs.States.{done};
 
 use crate::evaluate::answer;
@@ -15,9 +14,9 @@ use vx_names::{Selector, name_of};
 use vx_program::Program;
 
 /// How the run of the program ends with an allowance of so many calls, and the lines that it prints: the meaning of the
-/// program, for one in which no method has a closure or a resend. It lacks nothing.
+/// program. It lacks nothing. An allowance of more than a hundred calls might need more stack than a program has.
 pub fn mean(alloc: Global, program: &Program, f: u8) -> Result<Report, AllocError>
-    requires { is_plain program.now ≡ true }
+    requires { f ≤ 100 }
     ensures meant { IfOk result (λ report. report ≡ meaning program.now f) }
     ensures never_stuck { IfOk result (λ report. (lines : List Bytes) → report ≡ r.Stuck lines → ⊥) }
 {
@@ -28,7 +27,6 @@ pub fn mean(alloc: Global, program: &Program, f: u8) -> Result<Report, AllocErro
 
 // The call of `main` in the heap of the plain objects.
 fn evaluated(alloc: Global, program: &Program, f: u8) -> Result<Report, AllocError>
-    requires { is_plain program.now ≡ true }
     ensures { IfOk result (λ report. report ≡ meaning program.now f) }
 {
     let mut memory = Memory {
@@ -40,7 +38,15 @@ fn evaluated(alloc: Global, program: &Program, f: u8) -> Result<Report, AllocErr
         name: name_of(alloc, b"main")?,
         arity: 0,
     };
-    let outcome = answer(alloc, program, &selector, &[], f, &mut memory)?;
+    let outcome = answer(
+        alloc,
+        program,
+        &selector,
+        Items::new(alloc),
+        None,
+        f,
+        &mut memory,
+    )?;
     Ok(reported(outcome, memory))
 }
 

@@ -1,8 +1,9 @@
 //! What is in scope in an activation.
-ghost use Rattle.std.specs.Prelude.{◌≡◌, [], ◌∷◌, OnOk};
+ghost use Rattle.std.specs.Prelude.{◌≡◌, [], ◌∷◌, ◌++◌, IfOk, OnOk};
 ghost use Rattle.std.specs.Option.{option_copied};
 ghost use Rattle.vx_model.specs.Meaning.{bound};
 
+use sqlite_items::Items;
 use std::alloc::{AllocError, Global};
 use std::marker::Model;
 use vx_model::Local;
@@ -41,6 +42,18 @@ impl Scope {
         Ok(())
     }
 
+    /// Brings names into scope, the first innermost.
+    pub fn bring_all(&mut self, alloc: Global, locals: &[(Name, Local)]) -> Result<(), AllocError>
+        ensures { OnOk result (self.new ≡ locals.now ++ self.old) }
+    {
+        for i in (0..locals.len()).rev() {
+            let (name, local) = &locals[i];
+            let name = name.copy(alloc)?;
+            self.bring(name, local.copy(alloc)?)?;
+        }
+        Ok(())
+    }
+
     /// What the name stands for.
     #[tactic(auto, using(crate::proofs::Bindings::innermost))]
     pub fn bound(&self, name: &Name) -> Option<&Local>
@@ -55,5 +68,18 @@ impl Scope {
             }
         }
         None
+    }
+
+    /// All names in scope, the innermost first.
+    pub fn copy(&self, alloc: Global) -> Result<Items<(Name, Local)>, AllocError>
+        ensures { IfOk result (λ copies. copies ≡ self.now) }
+    {
+        let mut copies = Items::new(alloc);
+        for i in (0..self.names.len()).rev() {
+            let (name, local) = &self.names[i];
+            let name = name.copy(alloc)?;
+            copies.push((name, local.copy(alloc)?))?;
+        }
+        Ok(copies)
     }
 }

@@ -1,14 +1,14 @@
-use Rattle.std.proofs.Common.{sum, drop, ◌++◌, ◌≡◌, [], ℕ, List, map, ◌+◌, ◌*◌}
-use Rattle.vx_names.specs.declared.key.MethodKey.{MethodKey}
-use Rattle.vx_syntax.specs.Counts.{expr_size, stmt_size}
+use Rattle.std.proofs.Common.{sum, drop, ◌≡◌, [], List, map, ◌+◌, ◌*◌}
+use Rattle.vx_syntax.specs.Counts.{expr_size, size, stmt_size}
 use Rattle.vx_model.specs.declared.value.Value.{Value}
-use Rattle.vx_model.specs.Meaning.{State, Done, allowance, statements}
+use Rattle.vx_model.specs.Meaning.{State, Done, allowance, statements, turns}
 use Rattle.vx_model.specs.Values.{nil}
-use Rattle.vx_meaning.specs.States.{frame_of, largest, listed, state_of}
+use Rattle.vx_meaning.specs.States.{AreWithin, frame_of, largest, state_of}
+use Rattle.vx_meaning.proofs.Parts.{constructed, left, sent}
 use Rattle.vx_meaning.proofs.evaluate.+evaluation.Given as goal
 
 abbrev pub decreases-activate : goal.decreases-activate
-decreases-activate l = l.g * (4 * largest l.program.now + 10) + 4 * largest l.program.now + 6
+decreases-activate l = l.g * (4 * largest l.program.now + 10) + 4 * size l.body.now + 6
 
 abbrev pub decreases-answer : goal.decreases-answer
 decreases-answer l = l.g * (4 * largest l.program.now + 10) + 1
@@ -22,40 +22,48 @@ decreases-enter l = l.g * (4 * largest l.program.now + 10) + 4 * largest l.progr
 abbrev pub decreases-evaluate : goal.decreases-evaluate
 decreases-evaluate l = l.g * (4 * largest l.program.now + 10) + 4 * expr_size l.part.now
 
+abbrev pub decreases-open : goal.decreases-open
+decreases-open l = l.g * (4 * largest l.program.now + 10) + 4 * size l.held.now.body + 6
+
+abbrev pub decreases-operate : goal.decreases-operate
+decreases-operate l = l.g * (4 * largest l.program.now + 10) + 2
+
+abbrev pub decreases-repeat : goal.decreases-repeat
+decreases-repeat l = l.g * (4 * largest l.program.now + 10) + 1
+
 abbrev pub decreases-run : goal.decreases-run
 decreases-run l = l.g * (4 * largest l.program.now + 10) + 4 * sum (map stmt_size l.body.now) + 4
 
 abbrev pub decreases-send : goal.decreases-send
 decreases-send l = l.g * (4 * largest l.program.now + 10) + 4 * sum (map expr_size l.arguments.now) + 2
 
-abbrev pub decreases-step : goal.decreases-step
-decreases-step l = l.g * (4 * largest l.program.now + 10) + 4 * stmt_size l.statement.now + 2
-
 abbrev pub invariant-construct-loop-field : goal.invariant-construct-loop-field
 invariant-construct-loop-field l =
     record {
-      done : (key : MethodKey) (given : List Value) (home : ℕ) (go : List Value → State → Done) →
-          listed l.program (map (λ field. field.1) l.fields) (allowance l.program l.g) (frame_of key given home l.scope) (state_of l.fn.memory) go
-          ≡ listed l.program (map (λ field. field.1) (drop l.field-index l.fields)) (allowance l.program l.g) (frame_of key given home l.scope) (state_of l.memory)
-          (λ rest. go (l.values ++ rest));
-      closures : l.memory.heap.closures ≡ [];
+      done : (go : List Value → State → Done) → left (constructed l.program l.fields l.g (frame_of l.frame)) 0 [] (state_of l.fn.memory) go
+          ≡ left (constructed l.program l.fields l.g (frame_of l.frame)) l.field-index l.values (state_of l.memory) go;
+      within : AreWithin (largest l.program) l.memory.heap.closures;
+    }
+
+abbrev pub invariant-repeat-loop-left : goal.invariant-repeat-loop-left
+invariant-repeat-loop-left l =
+    record {
+      done : turns l.program (allowance l.program l.g) l.held (state_of l.fn.memory) ≡ turns l.program (allowance l.program l.left) l.held (state_of l.memory);
+      within : AreWithin (largest l.program) l.memory.heap.closures;
     }
 
 abbrev pub invariant-run-loop-statement : goal.invariant-run-loop-statement
 invariant-run-loop-statement l =
     record {
-      done : (key : MethodKey) (arguments : List Value) →
-          statements l.program l.body (allowance l.program l.g) (frame_of key arguments l.home l.fn.scope) (nil l.program) (state_of l.fn.memory)
-          ≡ statements l.program (drop l.statement-index l.body) (allowance l.program l.g) (frame_of key arguments l.home l.scope) l.last (state_of l.memory);
-      closures : l.memory.heap.closures ≡ [];
+      done : statements l.program l.body (allowance l.program l.g) (frame_of l.fn.frame) (nil l.program) (state_of l.fn.memory)
+          ≡ statements l.program (drop l.statement-index l.body) (allowance l.program l.g) (frame_of l.frame) l.last (state_of l.memory);
+      within : AreWithin (largest l.program) l.memory.heap.closures;
     }
 
 abbrev pub invariant-send-loop-argument : goal.invariant-send-loop-argument
 invariant-send-loop-argument l =
     record {
-      done : (key : MethodKey) (given : List Value) (home : ℕ) (go : List Value → State → Done) →
-          listed l.program l.arguments (allowance l.program l.g) (frame_of key given home l.scope) (state_of l.fn.memory) go
-          ≡ listed l.program (map (λ one. one) (drop l.argument-index l.arguments)) (allowance l.program l.g) (frame_of key given home l.scope) (state_of l.memory)
-          (λ rest. go (l.values ++ rest));
-      closures : l.memory.heap.closures ≡ [];
+      done : (go : List Value → State → Done) → left (sent l.program l.arguments l.g (frame_of l.frame)) 0 [] (state_of l.fn.memory) go
+          ≡ left (sent l.program l.arguments l.g (frame_of l.frame)) l.argument-index l.values (state_of l.memory) go;
+      within : AreWithin (largest l.program) l.memory.heap.closures;
     }
