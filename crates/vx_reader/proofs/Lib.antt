@@ -18,6 +18,10 @@ mod CutStrings
 mod CutTrees
 mod CutDecls
 mod Canonical
+mod Lines
+mod CutKeys
+mod EditTexts
 mod BadTokens
 mod Spelled
 mod Writable
+mod AnyDepth

@@ -1,5 +1,5 @@
 -- An edit that is read can be written.
-use Rattle.std.proofs.Common.{◌≡◌, ℕ, false, List, [], ◌∷◌, Some, None, Ok, subst}
+use Rattle.std.proofs.Common.{◌≡◌, ◌≤◌, ℕ, false, List, [], ◌∷◌, Some, None, Ok, subst}
 use Rattle.vx_syntax.specs.declared.token.Token.{Token}
 use Rattle.vx_syntax.specs.declared.token.Token.TheVariants as k
 use Rattle.vx_syntax.specs.Words.{IsMeant, AreMeant}
@@ -7,12 +7,13 @@ use Rattle.vx_program.specs.declared.edit.Change.{Change}
 use Rattle.vx_program.specs.declared.edit.Edit.{Edit}
 use Rattle.vx_program.specs.Apply.{IsWritable}
 use Rattle.vx_program.specs.Changes.{IsEdit}
+use Rattle.vx_reader.specs.declared.command.TheConstants.{MOST_RUN, MOST_MEAN}
 use Rattle.vx_reader.specs.declared.command.Command.{Command}
 use Rattle.vx_reader.specs.declared.command.Command.TheVariants as c
 use Rattle.vx_reader.specs.declared.state.State.{State}
 use Rattle.vx_reader.specs.declared.state.State.TheVariants as st
 use Rattle.vx_reader.specs.Tokens.{tokens}
-use Rattle.vx_reader.specs.Commands.{IsCommand, edit}
+use Rattle.vx_reader.specs.Commands.{IsCommand, edit, run, mean}
 use Rattle.vx_reader.specs.CommandMachine.{command_step}
 use Rattle.vx_reader.specs.CommandRemains.{CommandRemains, CommandMoves, wants_command}
 use Rattle.vx_reader.specs.Phrases.{Laws}
@@ -52,12 +53,18 @@ module _ (laws : Laws) where
       written e.changes (tokens bytes) (changes_of read.command)
       (all_meant (tokens bytes) st.Start (c.Edit e) (tokens_spelled bytes) read.small (wants_command read.command))
 
+run_within : {ts : List Token} {n : ℕ} → IsCommand ts (c.Run n) → n ≤ MOST_RUN
+run_within (run n within) = within
+
+mean_within : {ts : List Token} {n : ℕ} → IsCommand ts (c.Mean n) → n ≤ MOST_MEAN
+mean_within (mean n within) = within
+
 -- what is read of a block
 pub usable : ((bytes : List ℕ) (e : Edit) → Reads bytes (Ok (c.Edit e)) → IsWritable e.changes) → (bytes : List ℕ) (v : Command) → Says bytes (Ok v) → IsUsable v
 usable law bytes (c.Edit e) read = law bytes e read
 usable law bytes c.Blank read = tt
-usable law bytes (c.Run n) read = tt
-usable law bytes (c.Mean n) read = tt
+usable law bytes (c.Run n) read = run_within read.command
+usable law bytes (c.Mean n) read = mean_within read.command
 usable law bytes c.Image read = tt
 usable law bytes c.Why read = tt
 usable law bytes c.List read = tt

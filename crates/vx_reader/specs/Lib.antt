@@ -6,5 +6,7 @@ pub mod CommandMachine
 pub mod CommandRemains
 pub mod Phrases
 pub mod Reads
+pub mod AnyDepth
+pub mod EditText
 pub mod OpenLevels
 pub mod Progress

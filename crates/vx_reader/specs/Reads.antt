@@ -7,6 +7,7 @@ use Rattle.vx_syntax.specs.Words.{is_large}
 use Rattle.vx_syntax.specs.Depth.{max_depth, first_levels, counted, depth, levels_after, IsShallow}
 use Rattle.vx_program.specs.Apply.{IsWritable}
 use Rattle.vx_reader.specs.declared.token.Placed.{Placed}
+use Rattle.vx_reader.specs.declared.command.TheConstants.{MOST_RUN, MOST_MEAN}
 use Rattle.vx_reader.specs.declared.command.Command.{Command}
 use Rattle.vx_reader.specs.declared.command.Command.TheVariants as c
 use Rattle.vx_reader.specs.declared.command.ReadFault.{ReadFault}
@@ -92,9 +93,11 @@ abbrev pub Says : List ℕ → Result Command ReadFault → Type 0
 Says bytes (Err f.OutOfMemory) = Unit {0}
 Says bytes answer = Reads bytes answer
 
--- The command is no edit, or one that can be written.
+-- An edit can be written, and the numbers of the other commands are within their limits.
 abbrev pub IsUsable : Command → Type 0
 IsUsable (c.Edit edit) = IsWritable edit.changes
+IsUsable (c.Run n) = n ≤ MOST_RUN
+IsUsable (c.Mean n) = n ≤ MOST_MEAN
 IsUsable command = Unit {0}
 
 -- what the reader answers at the end of a block of so many bytes

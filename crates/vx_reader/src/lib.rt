@@ -18,12 +18,9 @@ mod tokenizer;
 
 pub use command::{Command, ReadFault};
 pub use laws::{
-    canonical_additions_are_read, every_block_is_read, one_reading, programs_are_read_back,
-    read_edits_are_writable,
+    canonical_additions_are_read, canonical_edits_are_read, every_block_is_read, one_reading,
+    programs_are_read_back, read_edits_are_writable, writable_edits_have_texts,
 };
 pub use reader::read_block;
 pub use token::Placed;
 pub use tokenizer::tokens;
-
-#[cfg(test)]
-mod tests;
