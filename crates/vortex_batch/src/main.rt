@@ -15,7 +15,16 @@ fn main(rt: HostRuntime) -> ExitCode {
     ExitCode::from(batch_top(rt.alloc(), words.as_slice(), &mut source, &mut sink))
 }
 
-// The words after the program's name.
+// The words after the program's name. Where one of them is no UTF-8 they are not listed, whatever the others are, so one
+// that is not listed stands for them.
 fn words(rt: &HostRuntime) -> io::Result<Vec<String>> {
-    Ok(env::args(rt)?.skip(1).collect(rt.alloc())?)
+    match env::args(rt) {
+        Ok(words) => Ok(words.skip(1).collect(rt.alloc())?),
+        Err(fault) if fault.kind() == io::ErrorKind::InvalidData => unlisted(rt),
+        Err(fault) => Err(fault),
+    }
+}
+
+fn unlisted(rt: &HostRuntime) -> io::Result<Vec<String>> {
+    Ok(vec![in rt.alloc(); "?".to_string(rt.alloc())?]?)
 }

@@ -1,5 +1,5 @@
 -- The texts of replies to runs: the lines that were printed, and how the run ended.
-use Rattle.std.specs.Prelude.{ℕ, List, ◌++◌, codes, if◌then◌else◌}
+use Rattle.std.specs.Prelude.{ℕ, List, ◌++◌, codes}
 use Rattle.std.specs.Fmt.{decimal}
 use Rattle.std.specs.List.{flat_map}
 use Rattle.vx_syntax.specs.declared.decl.Decl.{Decl}
@@ -9,8 +9,7 @@ use Rattle.vx_model.specs.declared.report.RunError.TheVariants as e
 use Rattle.vx_model.specs.declared.report.Report.{Report}
 use Rattle.vx_model.specs.declared.report.Report.TheVariants as r
 use Rattle.vx_model.specs.Meaning.{meaning}
-use Rattle.vx_meaning.specs.Plain.{is_plain}
-use Rattle.vx_batch.specs.Text.{line, not_yet_built_text}
+use Rattle.vx_batch.specs.Text.{line}
 
 -- the words for why a run stopped before its end
 abbrev pub error_words : RunError → List ℕ
@@ -39,7 +38,6 @@ report_text (r.Error lines error) = printed_text lines ++ line (codes "= error "
 report_text (r.Unfinished lines) = printed_text lines ++ line (codes "= unfinished")
 report_text (r.Stuck lines) = printed_text lines ++ line (codes "= stuck")
 
--- The program's meaning with an allowance of so many calls. It is not computed yet where a method has a closure or a resend, and those of the
--- prelude have none.
+-- The program's meaning with an allowance of so many calls.
 abbrev pub mean_text : List Decl → ℕ → List ℕ
-mean_text program f = if is_plain program then report_text (meaning program f) else not_yet_built_text
+mean_text program f = report_text (meaning program f)

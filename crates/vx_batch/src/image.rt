@@ -96,37 +96,3 @@ fn append_object(image: &mut Vec<u8>, decl: &Decl) -> Result<(), AllocError>
         _ => Ok(()),
     }
 }
-
-#[cfg(test)]
-mod tests {
-    use super::*;
-    use sqlite_items::Items;
-    use std::test::Fail;
-    use vx_names::NameFault;
-
-    fn object(alloc: Global, name: &[u8], parents: &[&[u8]]) -> Result<Decl, NameFault> {
-        let mut names = Items::new(alloc);
-        for parent in parents {
-            names.push(Name::new(alloc, parent)?)?;
-        }
-        Ok(Decl::Object {
-            name: Name::new(alloc, name)?,
-            parents: names,
-        })
-    }
-
-    #[test]
-    fn leaves_the_prelude_out(rt: HostRuntime) -> Result<(), Fail> {
-        let alloc = rt.alloc();
-        let decls = vec![in alloc;
-            object(alloc, b"a", &[b"b"])?,
-            object(alloc, b"any", &[])?,
-            object(alloc, b"b", &[b"any"])?,
-        ]?;
-        assert_eq!(rt;
-            image(alloc, decls.as_slice())?.as_slice(),
-            b"VXIC\0\0\0\0\x02\x01a\0\0\0\x01\x01b\x01b\0\0\0\x01\x03any".as_slice(),
-        );
-        Ok(())
-    }
-}

@@ -1,25 +1,21 @@
 //! The texts of replies to runs.
 
-ghost use Rattle.std.specs.Prelude.{◌≡◌, ◌++◌, IfOk, OnOk};
+ghost use Rattle.std.specs.Prelude.{◌≡◌, ◌≤◌, ◌++◌, IfOk, OnOk};
 ghost use Rattle.vx_batch.specs.Text.{line};
 ghost use Rattle.vx_batch.specs.Reports.{error_words, printed_text, report_text, mean_text};
 
-use crate::text::{append_line, refused_not_yet_built};
+use crate::text::append_line;
 use sqlite_items::Items;
 use std::alloc::{AllocError, Global};
-use vx_meaning::is_plain;
 use vx_model::{Report, RunError};
 use vx_program::Program;
 use vx_syntax::selector_text;
 
-/// Tells what the program means with an allowance of so many calls, or refuses a program whose meaning is not computed
-/// so far.
+/// Tells what the program means with an allowance of so many calls.
 pub fn mean(alloc: Global, program: &Program, f: u8) -> Result<Vec<u8>, AllocError>
+    requires { f ≤ 100 }
     ensures { IfOk result (λ text. text.items ≡ mean_text program.now f) }
 {
-    if !is_plain(program) {
-        return refused_not_yet_built(alloc);
-    }
     let report = vx_meaning::mean(alloc, program, f)?;
     let text = report_text(alloc, &report)?;
     drop(report);

@@ -80,14 +80,14 @@ impl Session {
         ensures counted { self.new.accepted ≤ self.old.accepted + 1 }
         ensures edited { IfOk result (λ text. IsEdited self.old.program self.new.program self.old.accepted self.new.accepted edit.now text.items) }
     {
-        let program = match self.program.apply(edit) {
-            Ok(program) => program,
-            Err(fault) => return refusal(alloc, fault),
-        };
         let text = text::accepted(alloc, self.accepted + 1)?;
-        self.program = program;
-        self.accepted += 1;
-        Ok(text)
+        match self.program.change(edit) {
+            Ok(()) => {
+                self.accepted += 1;
+                Ok(text)
+            }
+            Err(fault) => refusal(alloc, fault),
+        }
     }
 
     fn image(&self, alloc: Global) -> Result<Vec<u8>, AllocError>

@@ -82,7 +82,8 @@ pub fn batch_top<S: Source, K: Sink>(
         → (HasRisen (K.faults sink.old) (K.faults sink.new) → ⊥)
         → IfSome (S.left source.old) (λ all. given all (S.left source.new) ≤ INPUT_BYTES → (result ≡ 0) ⊎ (result ≡ 4)) }
 
-    // A refused edit names its fault, and all other replies are those of the script without its block.
+    // A law over replies, which `answered` ties to what the sink has: the reply to a refused edit names its fault, and all
+    // other replies are those of the script without its block.
     ensures refused { RefusedEditsChangeNothing }
 {
     one_reading();
