@@ -1,7 +1,10 @@
 # What the measures share: the program, a folder to work in, and the time of a script. Sourced, not run.
 top=$(cd "$(dirname "${BASH_SOURCE[0]}")/.." && pwd)
-"$top/run-script.sh" </dev/null
-program=$top/crates/vortex_batch/out/vortex_batch
+# PROGRAM may name another build of the batch compiler; else it is the proved one.
+if [ -z "${PROGRAM:-}" ]; then
+    "$top/run-script.sh" --proved </dev/null
+fi
+program=${PROGRAM:-$top/crates/vortex_batch/out/vortex_batch}
 work=$(mktemp -d)
 trap 'rm -rf "$work"' EXIT
 
