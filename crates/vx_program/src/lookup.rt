@@ -5,7 +5,7 @@ ghost use Rattle.vx_program.specs.Prelude.{sealed};
 ghost use Rattle.vx_program.specs.Program.{is_named, is_predicate, is_name_of, mentioned, parents_of};
 
 use vx_names::Name;
-use vx_syntax::Decl;
+use vx_syntax::{Decl, is_among};
 
 /// Whether the declaration is an object or a predicate of the name.
 pub fn is_named(decl: &Decl, x: &[u8]) -> bool
@@ -29,15 +29,11 @@ pub fn is_predicate(decl: &Decl) -> bool
 }
 
 /// Whether the name is one of these.
+#[tactic(auto, using(crate::proofs::Lookups::among_is_named))]
 pub fn is_name_of(names: &[Name], x: &Name) -> bool
     ensures { result ≡ is_name_of names.now x.now }
 {
-    for name in names {
-        if name.bytes() == x.bytes() {
-            return true;
-        }
-    }
-    false
+    is_among(names, x)
 }
 
 /// The objects that an object or a predicate inherits from.

@@ -61,14 +61,7 @@ pub fn method_key(
     requires { IsName x.now × (length specialisers ≤ 8) }
     ensures { IfOk result (λ key. key ≡ method_key x.now specialisers) }
 {
-    let selector = Selector {
-        name: name_of(alloc, x)?,
-        arity: specialisers.len() as u8,
-    };
-    Ok(MethodKey {
-        selector,
-        specialisers,
-    })
+    Ok(vx_syntax::method_key(name_of(alloc, x)?, specialisers))
 }
 
 fn named(alloc: Global, x: &[u8]) -> Result<Expr, AllocError>

@@ -7,10 +7,7 @@ ghost use Rattle.vx_syntax.specs.Words.{IsWord, IsText, is_printable};
 ghost use Rattle.vx_syntax.specs.Written.{IsLiteral, IsSent, AreNames};
 
 use vx_names::{Name, Operator, Selector, operators_are_names};
-use vx_syntax::{Keyword, TEXT_BYTES, is_printable};
-
-/// The most arguments that a message has.
-const MAX_ARGUMENTS: usize = 8;
+use vx_syntax::{Keyword, MAX_ARGUMENTS, TEXT_BYTES, is_printable};
 
 /// Whether the name is an identifier that is not reserved.
 pub fn is_word(name: &Name) -> bool

@@ -5,8 +5,7 @@ ghost use Rattle.vx_names.specs.declared.key.DeclKey.TheVariants as y;
 ghost use Rattle.vx_names.specs.Operator.{operator_of};
 ghost use Rattle.vx_syntax.specs.declared.decl.Decl.TheVariants as d;
 ghost use Rattle.vx_syntax.specs.Declarations.{named};
-ghost use Rattle.vx_syntax.specs.Expressions.{is_among, with_formals};
-ghost use Rattle.vx_syntax.specs.Tests.{joining_words};
+ghost use Rattle.vx_syntax.specs.Expressions.{with_formals};
 ghost use Rattle.vx_syntax.specs.Written.{AreFormalsWritten, IsDeclWritten, IsKeyWritten, IsSent, IsStartWritten, IsTestWritten};
 ghost use Rattle.vx_syntax.specs.declared.token.Token.{Token};
 ghost use Rattle.vx_syntax.specs.Words.{AreMeant};
@@ -21,8 +20,8 @@ use crate::written::{is_body_written, is_field_name};
 use std::alloc::{AllocError, Global};
 use vx_names::{DeclKey, FieldKey, MethodKey, Name};
 use vx_syntax::{
-    Body, Decl, Start, Test, what_is_read_can_be_written, written_declarations_are_read,
-    written_keys_are_read,
+    Body, Decl, Start, Test, is_joining, what_is_read_can_be_written,
+    written_declarations_are_read, written_keys_are_read,
 };
 
 /// Whether some block would mean the edit, if tokens might lie at any depth.
@@ -103,20 +102,12 @@ fn is_start_written(start: &Start) -> bool
     }
 }
 
-// Whether the word joins tests, and is no field of one.
-fn is_joining_word(x: &Name) -> bool
-    ensures { result ≡ is_among joining_words x.now }
-{
-    let bytes = x.bytes();
-    bytes == b"and".as_slice() || bytes == b"or".as_slice() || bytes == b"not".as_slice()
-}
-
 fn is_test_written(test: &Test) -> bool
     ensures { Decides result (IsTestWritten test.now) }
 {
     match test {
         Test::Compare(field, _, n) => {
-            is_field_name(field) && !is_joining_word(field) && is_literal(*n)
+            is_field_name(field) && !is_joining(field) && is_literal(*n)
         }
         Test::And(a, b) => is_test_written(a.get()) && is_test_written(b.get()),
         Test::Or(a, b) => is_test_written(a.get()) && is_test_written(b.get()),

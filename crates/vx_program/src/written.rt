@@ -10,10 +10,7 @@ use crate::scope::Scope;
 use crate::words::{is_literal, is_selector, is_text, is_word};
 use std::alloc::AllocError;
 use vx_names::{FIELD_NAME_BYTES, Name, Selector};
-use vx_syntax::{Body, Expr, Stmt};
-
-/// The most formals that a closure has.
-const MAX_CLOSURE_FORMALS: usize = 4;
+use vx_syntax::{Body, Expr, MAX_CLOSURE_FORMALS, Stmt};
 
 /// Whether the statements are a body of some text where these names are in scope. If so, the same names are in scope after it.
 #[cycle(written)]

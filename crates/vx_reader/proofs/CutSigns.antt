@@ -50,7 +50,7 @@ unfolding sign_front
 three_bytes a b c rest token three = by_three _ _ _ token (sign_of_three a b c rest ∙ three)
 
 -- a sign that no other begins with, whatever follows
-alone : (a : ℕ) (rest : List ℕ) (token : Token) → sign (a ∷ []) ≡ Some token → ((b : ℕ) → sign (a ∷ b ∷ []) ≡ None) → ((b c : ℕ) → sign (a ∷ b ∷ c ∷ []) ≡ None) →
+pub alone : (a : ℕ) (rest : List ℕ) (token : Token) → sign (a ∷ []) ≡ Some token → ((b : ℕ) → sign (a ∷ b ∷ []) ≡ None) → ((b c : ℕ) → sign (a ∷ b ∷ c ∷ []) ≡ None) →
     sign_front (a ∷ rest) ≡ begins token 1
 unfolding sign_front
 alone a [] token one two three = by_one _ _ _ token refl refl (sign_of_one a [] ∙ one)

@@ -1,6 +1,5 @@
 -- The classes of bytes that blocks are made of, besides those of names.
 use Rattle.std.specs.Prelude.{ℕ, Bool, ◌==◌, ◌||◌, not}
-use Rattle.vx_names.specs.Bytes.{is_word_byte}
 
 -- a tab, a line feed, a carriage return or a space
 abbrev pub is_white : ℕ → Bool
@@ -17,11 +16,3 @@ quote = 34
 -- a backslash
 abbrev pub backslash : ℕ
 backslash = 92
-
--- a comma
-abbrev pub comma : ℕ
-comma = 44
-
--- whether the byte stands only in parts of the language that are not read yet
-abbrev pub is_foreign : ℕ → Bool
-is_foreign b = not (is_white b || is_word_byte b || b == comma)

@@ -1,7 +1,7 @@
 ghost use Rattle.std.specs.Prelude.{◌≡◌, length, take_while};
 ghost use Rattle.std.specs.Char.{is_ascii_digit};
 ghost use Rattle.vx_names.specs.Bytes.{is_word_byte};
-ghost use Rattle.vx_reader.specs.Bytes.{is_white, is_foreign, is_in_line};
+ghost use Rattle.vx_reader.specs.Bytes.{is_white, is_in_line};
 
 use vx_names::is_word_byte;
 
@@ -10,13 +10,6 @@ pub fn is_white(byte: u8) -> bool
     ensures { result ≡ is_white byte }
 {
     matches!(byte, b'\t' | b'\n' | b'\r' | b' ')
-}
-
-/// Whether the byte stands only in parts of the language that are not read yet.
-pub fn is_foreign(byte: u8) -> bool
-    ensures { result ≡ is_foreign byte }
-{
-    !(is_white(byte) || is_word_byte(byte) || byte == b',')
 }
 
 /// How many bytes at the front may stand in an identifier.

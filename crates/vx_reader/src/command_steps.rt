@@ -20,6 +20,15 @@ use vx_phrases::{
 use vx_program::{Change, Edit};
 use vx_syntax::{Decl, Keyword, Token};
 
+// Lets go of what was read, at a token with which no command goes on. A function of its own, since a function pays at each
+// call for what it may let go of.
+fn stopped<T: Drop>(read: T) -> Option<State>
+    ensures { result ≡ None }
+{
+    drop(read);
+    None
+}
+
 // The state after a word that begins a change, behind these changes.
 fn changing(before: Items<Change>, name: &Name) -> Option<State>
     ensures { result ≡ spec.changing before name.now }
@@ -32,8 +41,7 @@ fn changing(before: Items<Change>, name: &Name) -> Option<State>
     } else if word == b"drop".as_slice() {
         Some(State::Dropping(before, key_begun()))
     } else {
-        drop(before);
-        None
+        stopped(before)
     }
 }
 
@@ -111,10 +119,7 @@ fn in_decl(put: bool, before: Items<Change>, state: Option<DeclState>) -> Option
 {
     match state {
         Some(state) => Some(State::Declaring(put, before, state)),
-        None => {
-            drop(before);
-            None
-        }
+        None => stopped(before),
     }
 }
 
@@ -124,10 +129,7 @@ fn in_key(before: Items<Change>, state: Option<KeyState>) -> Option<State>
 {
     match state {
         Some(state) => Some(State::Dropping(before, state)),
-        None => {
-            drop(before);
-            None
-        }
+        None => stopped(before),
     }
 }
 
@@ -216,10 +218,7 @@ fn behind_decl(
             let changes = with_decl(put, before, decl)?;
             after_decl(alloc, put, changes, token)
         }
-        None => {
-            drop((before, token));
-            Ok(None)
-        }
+        None => Ok(stopped((before, token))),
     }
 }
 
@@ -254,10 +253,7 @@ fn behind_key(
             let changes = with_key(before, key)?;
             after_key(alloc, changes, token)
         }
-        None => {
-            drop((before, token));
-            Ok(None)
-        }
+        None => Ok(stopped((before, token))),
     }
 }
 
@@ -271,10 +267,7 @@ pub fn command_step(alloc: Global, state: State, token: Token) -> Result<Option<
         State::Start => Ok(started(alloc, &token)),
         State::Run => Ok(run_for(&token)),
         State::Mean => Ok(mean_for(&token)),
-        State::Over(command) => {
-            drop(command);
-            Ok(None)
-        }
+        State::Over(command) => Ok(stopped(command)),
         State::Declaring(put, before, state) => declaring(alloc, put, before, state, token),
         State::Dropping(before, state) => dropping(alloc, before, state, token),
     }

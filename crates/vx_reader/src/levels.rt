@@ -8,7 +8,7 @@ ghost use Rattle.vx_reader.specs.OpenLevels.{all, Adds};
 use std::alloc::{AllocError, Global};
 use vx_bodies::Stack;
 use vx_names::Name;
-use vx_syntax::{Keyword, Mark, Token};
+use vx_syntax::{Keyword, Mark, Token, is_joining};
 
 /// The most that a token may lie deep.
 pub const MOST_DEPTH: u64 = 512;
@@ -158,18 +158,9 @@ impl Levels {
     }
 }
 
-// Whether the word joins tests, whatever it stands for.
-fn is_joining(name: &Name) -> bool
-    ensures { result ≡ is_among joining_words name.now }
-{
-    let bytes = name.bytes();
-    b"and".as_slice() == bytes || b"or".as_slice() == bytes || b"not".as_slice() == bytes
-}
-
 /// Whether the word begins changes, whatever it stands for.
 pub fn is_changing(name: &Name) -> bool
     ensures { result ≡ is_among spec.changing_words name.now }
 {
-    let bytes = name.bytes();
-    b"add".as_slice() == bytes || b"put".as_slice() == bytes || b"drop".as_slice() == bytes
+    matches!(name.bytes(), b"add" | b"put" | b"drop")
 }

@@ -13,7 +13,6 @@ use crate::levels::{Levels, MOST_DEPTH};
 use crate::state::State;
 use crate::token::Placed;
 use crate::tokenizer::tokens;
-use sqlite_items::Items;
 use std::alloc::{AllocError, Global};
 use vx_syntax::Token;
 
@@ -30,20 +29,6 @@ fn is_large(token: &Token) -> bool
     }
 }
 
-fn copy_token(alloc: Global, token: &Token) -> Result<Token, AllocError>
-    ensures { IfOk result (λ copy. copy ≡ token.now) }
-{
-    match token {
-        Token::Word(name) => Ok(Token::Word(name.copy(alloc)?)),
-        Token::Keyword(keyword) => Ok(Token::Keyword(*keyword)),
-        Token::Number(n) => Ok(Token::Number(*n)),
-        Token::Text(bytes) => Ok(Token::Text(Items::from_slice(alloc, bytes.as_slice())?)),
-        Token::Operator(operator) => Ok(Token::Operator(*operator)),
-        Token::Mark(mark) => Ok(Token::Mark(*mark)),
-        Token::Bad => Ok(Token::Bad),
-    }
-}
-
 // The token, or the greatest number of the language in place of a larger one, which shows whether a number may stand there.
 fn fitting(alloc: Global, token: &Token) -> Result<Token, AllocError>
     ensures { IfOk result (λ fit. IsSmall fit × (fit ≡ fitted token.now)) }
@@ -51,7 +36,7 @@ fn fitting(alloc: Global, token: &Token) -> Result<Token, AllocError>
     if is_large(token) {
         Ok(Token::Number(LARGE - 1))
     } else {
-        copy_token(alloc, token)
+        token.copy(alloc)
     }
 }
 
