@@ -27,7 +27,7 @@ if [ $# -gt 0 ]; then
 fi
 if ! stands && [ "$proved" = yes ]; then
     log=$(mktemp)
-    echo "proving and building vortex_batch: about an hour and a half of one processor the first time" >&2
+    echo "proving and building vortex_batch: about 25 minutes of one processor the first time" >&2
     (cd "$folder" && rt run </dev/null >"$log" 2>&1) || { cat "$log" >&2; exit 1; }
     rm -f "$log"
 fi
