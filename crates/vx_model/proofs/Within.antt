@@ -63,7 +63,7 @@ pub is_slot : (program : List Decl) (class : Bytes) (field : FieldKey × Start) 
 is_slot program class field i h = is_left (λ own. may program class own.0.specialiser) (fields program) field i h
 
 -- a key of a name is that of a field
-key_of_field : (name : Bytes) (fields : List (FieldKey × Start)) (key : FieldKey) → IsIn key (keys_named name fields) →
+pub key_of_field : (name : Bytes) (fields : List (FieldKey × Start)) (key : FieldKey) → IsIn key (keys_named name fields) →
     (field : FieldKey × Start) × IsIn field fields × (field.0 ≡ key)
 key_of_field name [] key i = absurd i
 key_of_field name (field ∷ rest) key i =

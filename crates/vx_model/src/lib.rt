@@ -23,7 +23,9 @@ pub use laws::{
 };
 pub use look::Look;
 pub use objects::{fresh, is_made, is_meant, nil, object, opening, truth};
-pub use primitives::{Deed, perform};
+pub use primitives::{
+    Deed, NoNumber, STRING_BYTES, difference, perform, product, quotient, rest, sum,
+};
 pub use report::{Report, RunError, copy_lines};
 pub use runs::{meanings_are_never_stuck, meanings_go_on};
 pub use value::{Heap, Held, Local, Thing, Value, copy_values};

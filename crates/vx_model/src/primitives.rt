@@ -1,7 +1,8 @@
 //! What the primitive methods do.
-ghost use Rattle.std.specs.Prelude.{◌≡◌, ◌+ℤ◌, ◌-ℤ◌, ◌*ℤ◌, List, option_map, IfOk};
+ghost use Rattle.std.specs.Prelude.{◌≡◌, ◌+ℤ◌, ◌-ℤ◌, ◌*ℤ◌, List, ok_or, option_map, IfOk};
 ghost use Rattle.vx_syntax.specs.declared.decl.Decl.{Decl};
-ghost use Rattle.vx_model.specs.Primitives.{Add, Subtract, Multiply, Divide, Remainder, Less, SameNumber, SameString, Join, number, divided, remainder, same_value, two_numbers, two_strings, same, print_number, print_string, evaluate, repeat, deed, of_number, performed};
+ghost use Rattle.vx_model.specs.Values.{truth};
+ghost use Rattle.vx_model.specs.Primitives.{Add, Subtract, Multiply, Divide, Remainder, Less, SameNumber, SameString, Join, number, divided, remainder, same_value, two_numbers, two_strings, same, print_number, print_string, evaluate, repeat, deed, numbered, performed};
 
 use crate::objects::truth;
 use crate::report::RunError;
@@ -11,7 +12,16 @@ use std::alloc::{AllocError, Global};
 use vx_program::Program;
 
 /// The most bytes of a string at run time.
-const STRING_BYTES: usize = 65_536;
+pub const STRING_BYTES: usize = 65_536;
+
+/// Why two numbers come to none.
+#[derive(Clone, Copy, Debug, PartialEq, Eq)]
+pub enum NoNumber {
+    /// The number has more than 128 bits.
+    TooLarge,
+    /// They are to be divided, and the second is 0.
+    ByZero,
+}
 
 /// What a primitive does, whatever the heap.
 #[derive(Drop)]
@@ -55,7 +65,7 @@ pub fn perform(
     number: usize,
     values: &[Value],
 ) -> Result<Deed, AllocError>
-    ensures { IfOk result (λ what. what ≡ performed program.now number values.now) }
+    ensures { IfOk result (λ what. what ≡ performed (truth program.now) number values.now) }
 {
     match number {
         0 => Ok(added(values)),
@@ -93,7 +103,7 @@ fn added(values: &[Value]) -> Deed
     ensures { (program : List Decl) → result ≡ deed program Add values.now }
 {
     match two_numbers(values) {
-        Some((a, b)) => sum(a, b),
+        Some((a, b)) => numbered(sum(a, b)),
         None => Deed::Lacks,
     }
 }
@@ -102,7 +112,7 @@ fn subtracted(values: &[Value]) -> Deed
     ensures { (program : List Decl) → result ≡ deed program Subtract values.now }
 {
     match two_numbers(values) {
-        Some((a, b)) => difference(a, b),
+        Some((a, b)) => numbered(difference(a, b)),
         None => Deed::Lacks,
     }
 }
@@ -111,7 +121,7 @@ fn multiplied(values: &[Value]) -> Deed
     ensures { (program : List Decl) → result ≡ deed program Multiply values.now }
 {
     match two_numbers(values) {
-        Some((a, b)) => product(a, b),
+        Some((a, b)) => numbered(product(a, b)),
         None => Deed::Lacks,
     }
 }
@@ -120,7 +130,7 @@ fn divided(values: &[Value]) -> Deed
     ensures { (program : List Decl) → result ≡ deed program Divide values.now }
 {
     match two_numbers(values) {
-        Some((a, b)) => quotient(a, b),
+        Some((a, b)) => numbered(quotient(a, b)),
         None => Deed::Lacks,
     }
 }
@@ -129,7 +139,7 @@ fn remainder(values: &[Value]) -> Deed
     ensures { (program : List Decl) → result ≡ deed program Remainder values.now }
 {
     match two_numbers(values) {
-        Some((a, b)) => rest(a, b),
+        Some((a, b)) => numbered(rest(a, b)),
         None => Deed::Lacks,
     }
 }
@@ -152,54 +162,68 @@ fn same_number(program: &Program, values: &[Value]) -> Deed
     }
 }
 
-// A number that fits, or the error where none does.
-fn number(n: Option<i128>) -> Deed
-    ensures { result ≡ of_number n }
+// What comes of a number, or of why there is none.
+fn numbered(number: Result<i128, NoNumber>) -> Deed
+    ensures { result ≡ numbered number }
 {
-    match n {
-        Some(n) => Deed::Answers(Value::Int(n)),
-        None => Deed::Breaks(RunError::Overflow),
+    match number {
+        Ok(n) => Deed::Answers(Value::Int(n)),
+        Err(NoNumber::TooLarge) => Deed::Breaks(RunError::Overflow),
+        Err(NoNumber::ByZero) => Deed::Breaks(RunError::DivideByZero),
     }
 }
 
-fn sum(a: i128, b: i128) -> Deed
-    ensures { result ≡ number (a +ℤ b) }
+fn fitting(number: Option<i128>) -> Result<i128, NoNumber>
+    ensures { result ≡ ok_or number NoNumber.TooLarge }
 {
-    number(a.checked_add(b))
-}
-
-fn difference(a: i128, b: i128) -> Deed
-    ensures { result ≡ number (a -ℤ b) }
-{
-    number(a.checked_sub(b))
-}
-
-fn product(a: i128, b: i128) -> Deed
-    ensures { result ≡ number (a *ℤ b) }
-{
-    number(a.checked_mul(b))
-}
-
-fn quotient(a: i128, b: i128) -> Deed
-    ensures { result ≡ divided a b }
-{
-    if b == 0 {
-        return Deed::Breaks(RunError::DivideByZero);
+    match number {
+        Some(n) => Ok(n),
+        None => Err(NoNumber::TooLarge),
     }
-    number(a.checked_div(b))
 }
 
-// What division leaves; it is 0 for the divisor -1 even where the quotient would not fit.
-fn rest(a: i128, b: i128) -> Deed
-    ensures { result ≡ remainder a b }
+/// What two numbers come to together.
+pub fn sum(a: i128, b: i128) -> Result<i128, NoNumber>
+    ensures { numbered result ≡ number (a +ℤ b) }
+{
+    fitting(a.checked_add(b))
+}
+
+/// What the first number is without the second.
+pub fn difference(a: i128, b: i128) -> Result<i128, NoNumber>
+    ensures { numbered result ≡ number (a -ℤ b) }
+{
+    fitting(a.checked_sub(b))
+}
+
+/// The first number times the second.
+pub fn product(a: i128, b: i128) -> Result<i128, NoNumber>
+    ensures { numbered result ≡ number (a *ℤ b) }
+{
+    fitting(a.checked_mul(b))
+}
+
+/// How often the second number goes into the first, cut off towards zero.
+pub fn quotient(a: i128, b: i128) -> Result<i128, NoNumber>
+    ensures { numbered result ≡ divided a b }
 {
     if b == 0 {
-        return Deed::Breaks(RunError::DivideByZero);
+        return Err(NoNumber::ByZero);
+    }
+    fitting(a.checked_div(b))
+}
+
+/// What division leaves of the first number; it is 0 for the divisor -1 even where the quotient would not fit.
+pub fn rest(a: i128, b: i128) -> Result<i128, NoNumber>
+    ensures { numbered result ≡ remainder a b }
+{
+    if b == 0 {
+        return Err(NoNumber::ByZero);
     }
     if b == -1 {
-        return Deed::Answers(Value::Int(0));
+        return Ok(0);
     }
-    Deed::Answers(Value::Int(a % b))
+    Ok(a % b)
 }
 
 fn two_strings(values: &[Value]) -> Option<(&[u8], &[u8])>
@@ -248,7 +272,7 @@ fn same_value(a: &Value, b: &Value) -> bool
 }
 
 fn same(program: &Program, values: &[Value]) -> Deed
-    ensures { result ≡ same program.now values.now }
+    ensures { result ≡ same (truth program.now) values.now }
 {
     match values {
         [a, b] => Deed::Answers(truth(program, same_value(a, b))),

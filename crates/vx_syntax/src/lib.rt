@@ -11,7 +11,7 @@ mod test;
 mod token;
 
 pub use count::{height, locals, size};
-pub use decl::{Decl, Start};
+pub use decl::{Decl, Start, copy_formals};
 pub use expr::{Body, Expr, MAX_ARGUMENTS, MAX_CLOSURE_FORMALS, Stmt, is_among};
 pub use key::{key_text, method_key, selector_text};
 pub use laws::{
