@@ -1,0 +1,14 @@
+pub mod Spelled
+pub mod Numbers
+pub mod Parts
+pub mod Rows
+pub mod Readings
+pub mod Tags
+pub mod Steps
+pub mod Shapes
+pub mod Tests
+pub mod Tables
+pub mod Instructions
+pub mod Codes
+pub mod Images
+pub mod Widen

@@ -1,0 +1,9 @@
+pub mod Values
+pub mod Lists
+pub mod Pieces
+pub mod Whole
+pub mod Named
+pub mod Counts
+pub mod Written
+pub mod Narrowed
+pub mod Rows

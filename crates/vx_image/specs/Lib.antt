@@ -1,0 +1,5 @@
+pub mod Gives
+pub mod Parts
+pub mod Views
+pub mod Spelled
+pub mod Narrow
