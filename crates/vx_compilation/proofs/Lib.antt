@@ -1,0 +1,23 @@
+pub mod Longer
+pub mod Steps
+pub mod Runs
+pub mod Coded
+pub mod TreeRows
+mod CodeRows
+pub mod Slots
+pub mod Covers
+pub mod Relations
+pub mod Sending
+pub mod Constructing
+pub mod Resolving
+pub mod Entering
+pub mod Calling
+pub mod Asked
+pub mod BindingSound
+pub mod Known
+pub mod Fitting
+pub mod Whole
+pub mod SameReports
+pub mod Images
+pub mod Variants
+pub mod TreeCourses

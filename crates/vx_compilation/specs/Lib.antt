@@ -1,0 +1,17 @@
+pub mod Activations
+pub mod TreeMeaning
+pub mod Machine
+pub mod Code
+pub mod Agrees
+pub mod Fits
+pub mod Questions
+pub mod Infos
+pub mod Binding
+pub mod Inlining
+pub mod Cloning
+pub mod Resolved
+pub mod Compiled
+pub mod BindingIsSound
+pub mod Alike
+pub mod Readings
+pub mod TreeAsking
