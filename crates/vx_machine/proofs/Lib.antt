@@ -1,0 +1,9 @@
+pub mod Stack
+pub mod Steps
+pub mod Calling
+pub mod Leaving
+pub mod Closing
+pub mod Fielding
+pub mod Testing
+pub mod Rising
+pub mod Views

@@ -1,0 +1,68 @@
+use Rattle.std.proofs.Common.{rules, sym, ap, ◌≡◌, ◌+◌, ◌++◌, ◌∙◌, length, Some, arith}
+use Rattle.std.proofs.lemmas.List.{length-append}
+use Rattle.vx_machine.specs.Cuts.{Extends}
+use Rattle.vx_places.specs.ImageMachine.{block_at}
+use Rattle.vx_format.specs.declared.image.Instr.TheVariants as instrs
+use Rattle.vx_machine.proofs.Closing.{close_done, close_lacks, close_unfit, extends_more}
+use Rattle.vx_machine.proofs.Leaving.{seen}
+use Rattle.vx_machine.proofs.Views.{kept_of}
+use Rattle.vx_machine.proofs.machine.Machine.close.Goals as goal
+
+pub returns-in_err-capture-clause-later : goal.returns-in_err-capture-clause-later
+returns-in_err-capture-clause-later c = λ all covers. rw (← c.self.view_is) (covers.0, extends_more _ _ _ c.capture.ensures.extends covers.1)
+
+pub returns-then-not-branch-clause-later : goal.returns-then-not-branch-clause-later
+returns-then-not-branch-clause-later c = λ all covers. rw (← c.self.view_is) (covers.0, extends_more _ _ _ c.capture.ensures.extends covers.1)
+
+pub returns-then-len-first-clause-later : goal.returns-then-len-first-clause-later
+returns-then-len-first-clause-later c = λ all covers. rw (← c.self.view_is) (covers.0, extends_more _ _ _ c.capture.ensures.extends covers.1)
+
+pub returns-then-place-clause-later : goal.returns-then-place-clause-later
+returns-then-place-clause-later c = λ all covers. rw (← c.self.view_is) (covers.0, extends_more _ _ _ c.capture.ensures.extends covers.1)
+
+pub returns-in_err-push-clause-later : goal.returns-in_err-push-clause-later
+returns-in_err-push-clause-later c = λ all covers. rw (← c.self.view_is) (covers.0, extends_more _ _ _ c.capture.ensures.extends covers.1)
+
+pub returns-in_err-push-2-clause-later : goal.returns-in_err-push-2-clause-later
+returns-in_err-push-2-clause-later c = λ all covers. rw (← c.self.view_is) (covers.0, extends_more _ _ _ c.capture.ensures.extends covers.1)
+
+pub returns-clause-later : goal.returns-clause-later
+returns-clause-later c = λ all covers. rw (← c.self.view_is) (covers.0, extends_more _ _ _ c.capture.ensures.extends covers.1)
+
+pub returns-then-not-branch-clause-does : goal.returns-then-not-branch-clause-does
+returns-then-not-branch-clause-does c = λ all covers.
+    let caught = rw c.if-not-branch.true at c.in_ok-capture.ensures.captures in
+    let at : block_at c.args.ready.now c.self.inside.activations.running.code c.args.block ≡ Some c.in-Some.found.now =
+    rw c.code-code.ensures at (sym c.in-Some.ensures) in
+    seen c.args.ready.now (instrs.Closure c.args.block c.args.xs.now) all (kept_of c.self.inside) c.args.self.now _ c.self.view_is
+    (close_lacks c.args.ready.now all (kept_of c.self.inside) c.args.block c.in-Some.found.now c.args.xs.now at caught)
+
+pub returns-then-len-first-clause-does : goal.returns-then-len-first-clause-does
+returns-then-len-first-clause-does c = λ all covers.
+    let caught = rw c.if-not-branch.false at c.in_ok-capture.ensures.captures in
+    let at : block_at c.args.ready.now c.self.inside.activations.running.code c.args.block ≡ Some c.in-Some.found.now =
+    rw c.code-code.ensures at (sym c.in-Some.ensures) in
+    let before : c.len-first.result ≡ length c.self.inside.captured.items = search rules in
+    let after : c.len.result ≡ length c.capture.new.captured.items = search rules in
+    let both : length c.capture.new.captured.items ≡ length c.self.inside.captured.items + length caught.0 =
+    ap length caught.2 ∙ length-append c.self.inside.captured.items caught.0 in
+    seen c.args.ready.now (instrs.Closure c.args.block c.args.xs.now) all (kept_of c.self.inside) c.args.self.now _ c.self.view_is
+    (close_unfit c.args.ready.now all (kept_of c.self.inside) c.args.block c.in-Some.found.now c.args.xs.now caught.0 at caught.1
+    (λ same. let r : ⊥ = omega (arith, before, after, both, same, c.if-len-first.true) in r))
+
+pub returns-clause-does : goal.returns-clause-does
+returns-clause-does c = λ all covers.
+    let caught = rw c.if-not-branch.false at c.in_ok-capture.ensures.captures in
+    let at : block_at c.args.ready.now c.self.inside.activations.running.code c.args.block ≡ Some c.in-Some.found.now =
+    rw c.code-code.ensures at (sym c.in-Some.ensures) in
+    let before : c.len-first.result ≡ length c.self.inside.captured.items = search rules in
+    let after : c.len.result ≡ length c.capture.new.captured.items = search rules in
+    let both : length c.capture.new.captured.items ≡ length c.self.inside.captured.items + length caught.0 =
+    ap length caught.2 ∙ length-append c.self.inside.captured.items caught.0 in
+    let count : c.in-Some.found.now.captures ≡ length caught.0 = omega (arith, before, after, both, c.if-len-first.false) in
+    let place : c.len-place.result ≡ length c.self.inside.closures.items = search rules in
+    let more : Extends (c.self.inside.captured.items ++ caught.0) all.captured = rw caught.2 at covers.1 in
+    seen c.args.ready.now (instrs.Closure c.args.block c.args.xs.now) all (kept_of c.self.inside) c.args.self.now _ c.self.view_is
+    (rw (c.in_ok-push-2.ensures.ok, c.in_ok-push.ensures.items, c.code-code.ensures, before, place)
+    (close_done c.args.ready.now all (kept_of c.self.inside) c.args.block c.home.result c.in-Some.found.now c.args.xs.now caught.0 at caught.1 count
+    (c.home.ensures all) more))

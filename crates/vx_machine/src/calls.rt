@@ -1,0 +1,141 @@
+//! Calls and returns.
+ghost use Rattle.std.specs.Prelude.{◌≡◌, ◌≤◌, ◌+◌, Some, None, IfOk, IfSome, length, take, drop};
+ghost use Rattle.vx_format.specs.declared.image.Image.{Image};
+ghost use Rattle.vx_compilation.specs.Machine.{home_of};
+ghost use Rattle.vx_format.specs.declared.image.Instr.TheVariants as instrs;
+ghost use Rattle.vx_compilation.specs.Activations.{ToCode};
+ghost use Rattle.vx_machine.specs.Meaning.{Whole, Did, Delivers, IsLater, Reached, Turns, role_of};
+
+use crate::machine::Machine;
+use crate::ready::Ready;
+use crate::word::{Held, Local, Role, Step, Word};
+use std::alloc::AllocError;
+use vx_model::RunError;
+
+impl<'a> Machine<'a> {
+    /// Enters a method's code with so many operands as its arguments.
+    pub fn enter(&mut self, ready: &Ready<'a>, code: u32, count: usize) -> Result<Step, AllocError>
+        requires { count ≤ length self.old.stacked.running.operands }
+        ensures does { Reached ready.now (ToCode code) count result self.old self.new }
+        ensures later { IsLater self.old self.new }
+    {
+        ready.image();
+        let Some(block) = ready.block(code, 0) else {
+            return Ok(Step::Lacks);
+        };
+        if block.formals as usize != count {
+            return Ok(Step::Lacks);
+        }
+        let Some(next) = self.next.checked_add(1) else {
+            return Err(AllocError);
+        };
+        let role = Role::Method(self.next);
+        self.activations.enter(code, block, &[], count, 0, role)?;
+        self.next = next;
+        Ok(Step::On)
+    }
+
+    /// Enters a code with its arguments, which are on top.
+    pub fn call(&mut self, ready: &Ready<'a>, code: u32) -> Result<Step, AllocError>
+        ensures does { Did ready.now (instrs.Call code) result self.old self.new }
+        ensures later { IsLater self.old self.new }
+    {
+        let Some(block) = ready.block(code, 0) else {
+            return Ok(Step::Lacks);
+        };
+        let count = block.formals as usize;
+        if self.activations.operands() < count {
+            return Ok(Step::Lacks);
+        }
+        self.enter(ready, code, count)
+    }
+
+    /// The home of the activation that runs.
+    pub fn home(&self) -> u64
+        ensures { (all : Whole) → result ≡ home_of (role_of all self.now.stacked.running.role) }
+    {
+        match self.activations.role() {
+            Role::Method(number) => number,
+            Role::Evaluation(home) => home,
+            Role::Turn(held) => held.home,
+        }
+    }
+
+    /// Leaves the activation in which the closure was made, with the top.
+    pub fn leave_home(&mut self) -> Result<Step, AllocError>
+        ensures does { (image : Image) → Did image instrs.Home result self.old self.new }
+        ensures later { IsLater self.old self.new }
+    {
+        match self.activations.pop() {
+            None => Ok(Step::Lacks),
+            Some(word) => {
+                let home = self.home();
+                match self.activations.leave_home(home) {
+                    None => Ok(Step::Stops(RunError::DeadReturn)),
+                    Some(false) => Ok(Step::Over),
+                    Some(true) => {
+                        self.activations.push(word)?;
+                        Ok(Step::On)
+                    }
+                }
+            }
+        }
+    }
+
+    /// Leaves the activation with the top, or begins the next turn of a loop.
+    pub fn leave(&mut self, ready: &Ready<'a>) -> Result<Step, AllocError>
+        ensures does { Did ready.now instrs.Ret result self.old self.new }
+        ensures later { IsLater self.old self.new }
+    {
+        match self.activations.pop() {
+            None => Ok(Step::Lacks),
+            Some(word) => match self.activations.role() {
+                Role::Turn(held) => self.turn(ready, held),
+                Role::Method(_) => self.deliver(word),
+                Role::Evaluation(_) => self.deliver(word),
+            },
+        }
+    }
+
+    // Leaves the activation with a value for the one that waits.
+    fn deliver(&mut self, word: Word<'a>) -> Result<Step, AllocError>
+        ensures does { (image : Image) → Delivers image word.entry result self.old self.new }
+        ensures later { IsLater self.old self.new }
+    {
+        if self.activations.leave() {
+            self.activations.push(word)?;
+            Ok(Step::On)
+        } else {
+            Ok(Step::Over)
+        }
+    }
+
+    // Begins the next turn of a loop in the place of the activation that runs.
+    fn turn(&mut self, ready: &Ready<'a>, held: Held) -> Result<Step, AllocError>
+        ensures does { Turns ready.now held result self.old self.new }
+        ensures later { IsLater self.old self.new }
+    {
+        ready.image();
+        let Some(block) = ready.block(held.code, held.block) else {
+            return Ok(Step::Lacks);
+        };
+        let Some(captures) = part(self.captured.as_slice(), held.first, held.count) else {
+            return Err(AllocError);
+        };
+        let role = Role::Turn(held);
+        self.activations.restart(held.code, block, captures, role)?;
+        Ok(Step::On)
+    }
+}
+
+/// So many from a place on, or nothing where they are not there. What a closure captured is always there.
+pub fn part<'b, 'a>(captured: &'b [Local<'a>], first: usize, count: u32) -> Option<&'b [Local<'a>]>
+    ensures { IfSome result (λ found. ((first + count) ≤ length captured.now) × (found.now ≡ take count (drop first captured.now))) }
+{
+    if first > captured.len() || captured.len() - first < count as usize {
+        return None;
+    }
+    let (_, rest) = captured.split_at(first);
+    let (found, _) = rest.split_at(count as usize);
+    Some(found)
+}

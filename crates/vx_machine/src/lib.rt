@@ -1,0 +1,21 @@
+//! Running an image.
+#![tactic(auto)]
+
+mod activations;
+mod calls;
+mod classes;
+mod closures;
+mod dispatch;
+mod failing;
+mod machine;
+mod masks;
+mod objects;
+mod ready;
+mod truths;
+mod word;
+
+pub use activations::Activations;
+pub use machine::Machine;
+pub use masks::mask_of;
+pub use ready::Ready;
+pub use word::{Held, Kept, Local, Object, Role, Step, Word};
