@@ -1,0 +1,10 @@
+pub mod Facts
+pub mod OrderRows
+pub mod FieldRows
+pub mod SendRows
+pub mod UnitRows
+pub mod Answers
+pub mod Findings
+pub mod MayBe
+pub mod Touched
+pub mod BindReads
