@@ -4,6 +4,8 @@ pub mod Calling
 pub mod Leaving
 pub mod Closing
 pub mod Fielding
+pub mod Deeds
 pub mod Testing
 pub mod Rising
 pub mod Views
+pub mod Sending

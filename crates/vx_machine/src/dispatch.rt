@@ -36,8 +36,8 @@ fn mask_at(
     }
 }
 
-// The word at a place.
-fn taken<'a>(words: &[Word<'a>], i: usize) -> Option<Word<'a>>
+/// The word at a place.
+pub fn taken<'a>(words: &[Word<'a>], i: usize) -> Option<Word<'a>>
     ensures { result ≡ slice_get words.entry.now i }
 {
     words.get(i).copied()

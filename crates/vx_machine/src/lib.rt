@@ -10,12 +10,15 @@ mod failing;
 mod machine;
 mod masks;
 mod objects;
+mod primitives;
 mod ready;
+mod sends;
 mod truths;
 mod word;
 
 pub use activations::Activations;
 pub use machine::Machine;
 pub use masks::mask_of;
+pub use primitives::{Answer, Joined};
 pub use ready::Ready;
-pub use word::{Held, Kept, Local, Object, Role, Step, Word};
+pub use word::{Held, Kept, Led, Local, Object, Role, Step, Word};

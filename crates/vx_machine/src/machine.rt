@@ -5,6 +5,7 @@ ghost use Rattle.vx_format.specs.declared.image.Image.{Image};
 ghost use Rattle.vx_machine.specs.Meaning.{Did, IsLater};
 
 use crate::activations::Activations;
+use crate::truths::Truths;
 use crate::word::{Held, Local, Object, Step, Word};
 use sqlite_items::Items;
 use std::alloc::AllocError;
@@ -29,6 +30,10 @@ pub struct Machine<'a> {
     pub next: u64,
     /// The lines that were printed.
     pub lines: Items<Items<u8>>,
+    /// Room for the truth values of tests.
+    pub truths: Truths,
+    /// Room for the rows that the arguments of a message may take.
+    pub masks: Vec<u128>,
 }
 
 impl<'a> Model for Machine<'a> {

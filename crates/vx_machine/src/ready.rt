@@ -2,6 +2,8 @@
 ghost use Rattle.std.specs.Prelude.{◌≡◌, ◌<◌, Some, IfOk, IfSome, length, map, slice_get};
 ghost use Rattle.vx_places.specs.Dispatch.{dispatched};
 ghost use Rattle.std.specs.Option.{option_copied};
+ghost use Rattle.vx_format.specs.declared.image.Table.{Table};
+ghost use Rattle.vx_names.specs.Name.{IsName};
 ghost use Rattle.vx_places.specs.ImageMachine.{block_at};
 ghost use Rattle.vx_machine.specs.Meaning.{IsFine, Texts, things_of, value_of};
 
@@ -51,6 +53,15 @@ impl<'a> Ready<'a> {
             None => None,
             Some(blocks) => blocks.get(block as usize),
         }
+    }
+
+    /// The table of a place.
+    pub fn table(&self, t: u32) -> Option<&'a Table>
+        ensures table { option_copied result ≡ slice_get self.now.tables t }
+        ensures name { (own : Table) → option_copied result ≡ Some own → IsName own.name }
+    {
+        let image = self.image;
+        at(image.tables.as_slice(), t as usize)
     }
 
     /// What a table makes of values, on from a row where there is one.

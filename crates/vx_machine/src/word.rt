@@ -95,3 +95,12 @@ pub enum Step {
     /// The run stops.
     Stops(RunError),
 }
+
+/// What the row that a message found led to.
+#[derive(Drop)]
+pub enum Led {
+    /// It was done.
+    Done(Step),
+    /// It is a primitive, which is left to be performed.
+    Perform(u8),
+}
