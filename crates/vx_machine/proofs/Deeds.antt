@@ -1,5 +1,5 @@
 -- What primitives make of the operands.
-use Rattle.std.proofs.Common.{◌≡◌, ℕ, zero, suc, ◌+◌, List, [], ◌∷◌, ◌++◌, map, take, reverse, Some, None, Result, Ok, Err, refl, sym, ap, ◌∙◌, arith, append_assoc, length}
+use Rattle.std.proofs.Common.{◌≡◌, ◌<◌, ◌≤◌, ℕ, zero, suc, ◌+◌, List, [], ◌∷◌, ◌++◌, map, take, reverse, Some, None, Result, Ok, Err, refl, sym, ap, ◌∙◌, arith, append_assoc, length}
 use Rattle.std.specs.Prelude.{get_or, slice_get}
 use Rattle.std.specs.declared.alloc.AllocError.{AllocError}
 use Rattle.std.proofs.lemmas.List.{reverse-append}
@@ -10,13 +10,16 @@ use Rattle.vx_model.specs.declared.primitives.Deed.{Deed}
 use Rattle.vx_model.specs.declared.primitives.Deed.TheVariants as deeds
 use Rattle.vx_model.specs.Primitives.{evaluate, performed, repeat}
 use Rattle.vx_format.specs.declared.image.Image.{Image}
-use Rattle.vx_compilation.specs.Machine.{Finds, does}
+use Rattle.vx_format.specs.declared.image.Instr.TheVariants as n
+use Rattle.vx_compilation.specs.Activations.{ToPrimitive}
+use Rattle.vx_compilation.specs.Machine.{Finds, Lacks, does, reaches}
 use Rattle.vx_places.specs.ImageMachine.{codes_of, count_of, truth, world}
 use Rattle.vx_machine.specs.declared.word.Word.{Word}
 use Rattle.vx_machine.specs.declared.word.Word.TheVariants as w
 use Rattle.vx_machine.specs.declared.word.Step.{Step}
 use Rattle.vx_machine.specs.Cuts.{Extends, Stacked, pushed}
-use Rattle.vx_machine.specs.Meaning.{Evaluates, Kept, Repeats, Whole, arguments, frames, state_of, value_of}
+use Rattle.vx_machine.specs.Meaning.{Evaluates, Kept, Repeats, Whole, acted, arguments, frames, machine_of, reached, state_of, value_of}
+use Rattle.vx_machine.proofs.Calling.{takes, takes_lacks}
 use Rattle.vx_machine.specs.Deeds.{Performs, closure_of, two_of}
 
 -- a deed of the two topmost operands
@@ -118,3 +121,17 @@ joins_as image number count result old new is two done = rw (is, two) done
 pub joins_done : (image : Image) (number : ℕ) (result : Result Step AllocError) (old new : Kept) → number ≡ 8
     → Performs image (performed (truth image.own) 8) 2 result old new → Performs image (performed (truth image.own) number) (count_of number) result old new
 joins_done image number result old new is done = joins_as image number (count_of number) result old new is (rw is refl) done
+
+-- ---- instructions that name a primitive
+
+pub prim_is : (image : Image) (all : Whole) (number : ℕ) (old : Kept) → count_of number ≤ length old.stacked.running.operands
+    → acted image (n.Prim number) (machine_of image all old) ≡ reached image (ToPrimitive number) all (count_of number) old
+prim_is image all number old le =
+    takes image all (count_of number) old
+    (λ values frames. reaches (world image) (codes_of image) (ToPrimitive number) values frames (state_of all old)) le
+
+pub prim_lacks : (image : Image) (all : Whole) (number : ℕ) (old : Kept) → length old.stacked.running.operands < count_of number
+    → acted image (n.Prim number) (machine_of image all old) ≡ Lacks
+prim_lacks image all number old lt =
+    takes_lacks image all (count_of number) old
+    (λ values frames. reaches (world image) (codes_of image) (ToPrimitive number) values frames (state_of all old)) lt

@@ -6,7 +6,8 @@ ghost use Rattle.vx_model.specs.declared.value.Value.{Value};
 ghost use Rattle.vx_model.specs.Primitives.{counts, evaluate, joined, numbered, performed, print_number, repeat, same_value, two_numbers, two_strings};
 ghost use Rattle.vx_compilation.specs.Activations.{ToPrimitive};
 ghost use Rattle.vx_places.specs.ImageMachine.{count_of, truth};
-ghost use Rattle.vx_machine.specs.Meaning.{IsLater, Reached, Texts, value_of};
+ghost use Rattle.vx_format.specs.declared.image.Instr.TheVariants as instrs;
+ghost use Rattle.vx_machine.specs.Meaning.{Did, IsLater, Reached, Texts, value_of};
 ghost use Rattle.vx_machine.specs.Cuts.{Extends};
 ghost use Rattle.vx_machine.specs.Deeds.{Answers, Performs, bytes_of, closure_of, deed_of, joins, printed, same_plain, two_of};
 
@@ -182,6 +183,28 @@ impl<'a> Machine<'a> {
             return Ok(Step::Lacks);
         }
         self.perform(alloc, ready, number)
+    }
+
+    /// Performs the primitive that an instruction names.
+    pub fn prim(&mut self, alloc: Global, ready: &Ready<'a>, number: u8) -> Result<Step, AllocError>
+        ensures does { Did ready.now (instrs.Prim number) result self.old self.new }
+        ensures later { IsLater self.old self.new }
+    {
+        let count = count_of(number);
+        if self.activations.operands() < count {
+            return Ok(Step::Lacks);
+        }
+        self.perform_top(alloc, ready, number, count)
+    }
+}
+
+// How many operands an instruction takes for the primitive of the number: none where there is no such primitive.
+fn count_of(number: u8) -> usize
+    ensures { result ≡ count_of number }
+{
+    match wanted(number) {
+        None => 0,
+        Some(count) => count,
     }
 }
 

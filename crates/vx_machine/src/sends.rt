@@ -9,7 +9,7 @@ ghost use Rattle.vx_names.specs.Name.{IsName};
 ghost use Rattle.vx_compilation.specs.Activations.{ToError};
 ghost use Rattle.vx_places.specs.Dispatch.{clone_for, dispatched};
 ghost use Rattle.vx_places.specs.ImageMachine.{arity_of, selector_of, set_name};
-ghost use Rattle.vx_machine.specs.Meaning.{IsLater, Reached, Whole, arguments, things_of};
+ghost use Rattle.vx_machine.specs.Meaning.{Did, IsLater, Reached, Whole, arguments, things_of};
 ghost use Rattle.vx_machine.specs.Sending.{Acts, Goes, Leads, is_object, sent_of, target_of, to_code};
 
 use crate::classes::class_of;
@@ -89,6 +89,39 @@ impl<'a> Machine<'a> {
             return Ok(Led::Done(Step::Lacks));
         }
         self.find(alloc, ready, t, table, Some(row))
+    }
+
+    /// Sends a message to a table, and performs the primitive that it finds, if it is one.
+    pub fn perform_send(
+        &mut self,
+        alloc: Global,
+        ready: &Ready<'a>,
+        t: u32,
+    ) -> Result<Step, AllocError>
+        ensures does { Did ready.now (instrs.Send t) result self.old self.new }
+        ensures later { IsLater self.old self.new }
+    {
+        match self.send(alloc, ready, t)? {
+            Led::Done(step) => Ok(step),
+            Led::Perform(number) => self.perform_top(alloc, ready, number, arity_of(ready, t)),
+        }
+    }
+
+    /// Sends a message on from a row of a table, and performs the primitive that it finds, if it is one.
+    pub fn perform_resend(
+        &mut self,
+        alloc: Global,
+        ready: &Ready<'a>,
+        t: u32,
+        row: u8,
+    ) -> Result<Step, AllocError>
+        ensures does { Did ready.now (instrs.Resend t row) result self.old self.new }
+        ensures later { IsLater self.old self.new }
+    {
+        match self.resend(alloc, ready, t, row)? {
+            Led::Done(step) => Ok(step),
+            Led::Perform(number) => self.perform_top(alloc, ready, number, arity_of(ready, t)),
+        }
     }
 
     /// Finds a row for the topmost operands, on from a row where there is one, and does what it says.
@@ -254,6 +287,16 @@ impl<'a> Machine<'a> {
     {
         let selector = selector(alloc, table)?;
         Ok(Step::Stops(RunError::Ambiguous(selector)))
+    }
+}
+
+// How many operands a table takes, or none where it is missing.
+fn arity_of(ready: &Ready<'_>, t: u32) -> usize
+    ensures { result ≡ arity_of ready.now t }
+{
+    match ready.table(t) {
+        None => 0,
+        Some(table) => table.arity as usize,
     }
 }
 
