@@ -1,5 +1,6 @@
 -- What is asked for the base of a name comes to it.
-use Rattle.std.proofs.Common.{List, true, false, [], ap, refl, sym, subst, suc, zero, inl, inr, arith, length, length-append, ◌∷◌, ◌++◌, ◌≡◌, ◌∙◌, ◌⊎◌, ◌+◌, ◌≤◌, Option, Some, None, ℕ}
+use Rattle.std.proofs.Common.{List, true, false, [], ap, refl, sym, subst, suc, zero, inl, inr, arith, length, length-append, ◌∷◌, ◌++◌, ◌≡◌, ◌∙◌}
+use Rattle.std.proofs.Common.{◌⊎◌, ◌+◌, ◌≤◌, Option, Some, None, ℕ}
 use Rattle.std.specs.Prelude.{nat_lt, if◌then◌else◌}
 use Rattle.std.proofs.lemmas.Bool.{cases_Bool, cond-true, cond-false, both_ways, false_from_ne_true, or_parts}
 use Rattle.vx_lists.specs.Members.{IsIn}

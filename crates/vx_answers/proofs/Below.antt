@@ -12,7 +12,8 @@ use Rattle.vx_node.specs.declared.answer.Answer.{Answer}
 use Rattle.vx_node.specs.Nodes.{rank}
 use Rattle.vx_node.specs.Traces.{Answers}
 use Rattle.vx_node.specs.Asking.{Asking, gives, mixes, asks, asked, followed, each}
-use Rattle.vx_answers.specs.OrderRows.{Way, walk, walk_from, most_names, fresh, with_name, upward, downward, up_row, cone_row, base_row, is_plain, chain, onward_in, Onward, nowhere, here, first}
+use Rattle.vx_answers.specs.OrderRows.{Way, walk, walk_from, most_names, fresh, with_name, upward, downward, up_row, cone_row, base_row, is_plain}
+use Rattle.vx_answers.specs.OrderRows.{chain, onward_in, Onward, nowhere, here, first}
 use Rattle.vx_answers.specs.FieldRows.{Slot, slots_row, spread, joining, may_hold, predicates_in, fields_row, field_row, slots_in, in_key_order, joined, lowest}
 use Rattle.vx_model.specs.Fields.{keys_named}
 

@@ -1,5 +1,6 @@
 -- What is read for a binding.
-use Rattle.std.proofs.Common.{List, Bool, true, false, not, [], ap, refl, sym, subst, suc, zero, inl, inr, arith, map, filter, append-nil, ◌∷◌, ◌++◌, ◌≡◌, ◌∙◌, ◌⊎◌, ◌+◌, Option, Some, None, ℕ}
+use Rattle.std.proofs.Common.{List, Bool, true, false, not, [], ap, refl, sym, subst, suc, zero, inl, inr, arith, map, filter, append-nil, ◌∷◌, ◌++◌}
+use Rattle.std.proofs.Common.{◌≡◌, ◌∙◌, ◌⊎◌, ◌+◌, Option, Some, None, ℕ}
 use Rattle.std.specs.Prelude.{slice_get}
 use Rattle.std.specs.Str.{bytes_eq}
 use Rattle.std.proofs.lemmas.Bool.{cases_Bool, cond-true, cond-false, false≢true}
@@ -24,7 +25,8 @@ use Rattle.vx_node.specs.Asking.{asked}
 use Rattle.vx_model.specs.Order.{base}
 use Rattle.vx_compilation.specs.Readings.{base_in}
 use Rattle.vx_compilation.specs.Compiled.{heads}
-use Rattle.vx_answers.specs.SendRows.{About, about, beside, base_of, specialisers_of, all_of, specialisers_asked, info_objects, with_base, base_at, bases_at, cones_asked, bind_among}
+use Rattle.vx_answers.specs.SendRows.{About, about, beside, base_of, specialisers_of, all_of, specialisers_asked, info_objects, with_base, base_at}
+use Rattle.vx_answers.specs.SendRows.{bases_at, cones_asked, bind_among}
 use Rattle.vx_answers.specs.BindReads.{IsBaseAt, IsReadFor}
 use Rattle.vx_answers.specs.Answers.{ans, reads}
 use Rattle.vx_answers.proofs.Walked.{fresh_in}

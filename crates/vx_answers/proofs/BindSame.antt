@@ -1,5 +1,6 @@
 -- A binding is the same over orders that tell the same of all that was asked for it.
-use Rattle.std.proofs.Common.{List, Bool, true, false, not, [], ap, refl, suc, zero, inl, inr, arith, map, filter, ◌∷◌, ◌≡◌, ◌∙◌, ◌+◌, ◌&&◌, ◌||◌, Option, Some, None, ℕ}
+use Rattle.std.proofs.Common.{List, Bool, true, false, not, [], ap, refl, suc, zero, inl, inr, arith, map, filter, ◌∷◌, ◌≡◌, ◌∙◌, ◌+◌, ◌&&◌, ◌||◌}
+use Rattle.std.proofs.Common.{Option, Some, None, ℕ}
 use Rattle.std.specs.Prelude.{slice_get}
 use Rattle.std.specs.List.{find, list_all, list_any}
 use Rattle.std.specs.Str.{bytes_eq}
@@ -20,7 +21,8 @@ use Rattle.vx_model.specs.Lookup.{differ, same_method}
 use Rattle.vx_compilation.specs.Binding.{Order, goes_before, is_plain, is_sure, is_possible, at_each, is_candidate, is_bound_to, chosen, bind}
 use Rattle.vx_answers.specs.SendRows.{About, about, beside, order_of, specialisers_of, specialisers_asked, info_objects, bases_at, cones_asked, bind_among}
 use Rattle.vx_answers.proofs.EachLaw.{each_outcome}
-use Rattle.vx_answers.proofs.BindIs.{order_told, about_by, pair, base_found, name_found, up_found, is_asked, in_heads, in_below, in_bases, AgreeOf, AgreeAt, AgreeEach, each_sure, each_possible, over_each}
+use Rattle.vx_answers.proofs.BindIs.{order_told, about_by, pair, base_found, name_found, up_found, is_asked, in_heads, in_below, in_bases, AgreeOf}
+use Rattle.vx_answers.proofs.BindIs.{AgreeAt, AgreeEach, each_sure, each_possible, over_each}
 
 pub got_in : (xs : List Bytes) (place : ℕ) (x : Bytes) → slice_get xs place ≡ Some x → IsIn x xs
 got_in [] place x e = absurd (cc)

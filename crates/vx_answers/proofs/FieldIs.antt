@@ -36,7 +36,8 @@ use Rattle.vx_answers.proofs.Walked.{met_is}
 use Rattle.vx_answers.proofs.UpRow.{GivesDecls}
 use Rattle.vx_answers.proofs.UpIs.{up_value, up_reads, up_reads_all, up_ascending}
 use Rattle.vx_answers.proofs.EachLaw.{each_outcome, each_asked, about_all, about_one, one_about}
-use Rattle.vx_answers.proofs.SlotsOrder.{KeysApart, in_sorted, sorted_in, are_sorted, sorted_apart, filter_sorted, joined_apart, same_slots, fields_sorted, field_decl}
+use Rattle.vx_answers.proofs.SlotsOrder.{KeysApart, in_sorted, sorted_in, are_sorted, sorted_apart, filter_sorted, joined_apart, same_slots}
+use Rattle.vx_answers.proofs.SlotsOrder.{fields_sorted, field_decl}
 use Rattle.vx_answers.proofs.BindSame.{all_same}
 
 -- these answers say which fields names have as the program does

@@ -1,5 +1,6 @@
 -- Which predicates join those that are met.
-use Rattle.std.proofs.Common.{List, Bool, true, false, not, [], ap, refl, sym, subst, inl, inr, arith, length, append_assoc, append-nil, ◌∷◌, ◌++◌, ◌≡◌, ◌∙◌, ◌≤◌, ◌&&◌}
+use Rattle.std.proofs.Common.{List, Bool, true, false, not, [], ap, refl, sym, subst, inl, inr, arith, length, append_assoc, append-nil, ◌∷◌, ◌++◌}
+use Rattle.std.proofs.Common.{◌≡◌, ◌∙◌, ◌≤◌, ◌&&◌}
 use Rattle.std.specs.Prelude.{nat_lt, if◌then◌else◌}
 use Rattle.std.specs.List.{list_all}
 use Rattle.std.proofs.lemmas.Bool.{cases_Bool, cond-true, cond-false, and_parts, and_from, both_ways, false≢true}

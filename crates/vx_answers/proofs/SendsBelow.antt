@@ -15,7 +15,8 @@ use Rattle.vx_node.specs.Asking.{gives}
 use Rattle.vx_model.specs.Kinds.{Source}
 use Rattle.vx_compilation.specs.Readings.{heads_in, source_in, base_in, bound_in}
 use Rattle.vx_compilation.specs.Cloning.{Sending, sends_of, is_name, is_one, is_open}
-use Rattle.vx_answers.specs.SendRows.{about, beside, specialisers_of, specialisers_asked, info_objects, cones_asked, bind_among, bind_row, inline_row, all_one, decided, is_base, positions, clones_by, clones_row, names_in}
+use Rattle.vx_answers.specs.SendRows.{about, beside, specialisers_of, specialisers_asked, info_objects, cones_asked, bind_among, bind_row}
+use Rattle.vx_answers.specs.SendRows.{inline_row, all_one, decided, is_base, positions, clones_by, clones_row, names_in}
 use Rattle.vx_answers.specs.UnitRows.{TableUnit, with_cone, source_heads, table_among, table_row}
 use Rattle.vx_answers.proofs.Below.{AsksBelow, given, low, followed_below, each_below, either_below}
 

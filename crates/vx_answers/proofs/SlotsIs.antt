@@ -1,5 +1,6 @@
 -- What is asked for the slots of a class comes to them.
-use Rattle.std.proofs.Common.{List, [], ap, refl, sym, subst, suc, zero, inl, inr, arith, length, length-append, append_assoc, append-nil, ◌∷◌, ◌++◌, ◌≡◌, ◌∙◌, ◌⊎◌, ◌+◌, ◌≤◌, ℕ}
+use Rattle.std.proofs.Common.{List, [], ap, refl, sym, subst, suc, zero, inl, inr, arith, length, length-append, append_assoc, append-nil, ◌∷◌, ◌++◌}
+use Rattle.std.proofs.Common.{◌≡◌, ◌∙◌, ◌⊎◌, ◌+◌, ◌≤◌, ℕ}
 use Rattle.std.specs.Str.{bytes_eq}
 use Rattle.std.proofs.lemmas.Bool.{cases_Bool, both_ways}
 use Rattle.vx_lists.specs.Members.{IsIn}

@@ -23,11 +23,17 @@ use Rattle.vx_model.specs.Lookup.{same_method}
 use Rattle.vx_model.specs.Meaning.{field_names}
 use Rattle.vx_model.specs.Kinds.{Source}
 use Rattle.vx_compilation.specs.Resolved as resolved
-use Rattle.vx_compilation.specs.TreeAsking.{key_by, Course, AskInner, ask_named, ask_missing, ask_fault, is_exact, ask_variant, ask_called, ask_bound, ask_nothing, ask_resend, ask_needs, ask_needs_of_parts, ask_needs_of_fields, ask_needs_of_body, ask_needs_of_statement, ask_expression, ask_parts, ask_fields, ask_body, ask_statement, ask_statements, ask_inlined, ask_inner, ask_formal, ask_formals, ask_others, ask_infos, ask_source, ask_tree}
+use Rattle.vx_compilation.specs.TreeAsking.{key_by, Course, AskInner, ask_named, ask_missing, ask_fault, is_exact, ask_variant, ask_called}
+use Rattle.vx_compilation.specs.TreeAsking.{ask_bound, ask_nothing, ask_resend, ask_needs, ask_needs_of_parts, ask_needs_of_fields}
+use Rattle.vx_compilation.specs.TreeAsking.{ask_needs_of_body, ask_needs_of_statement, ask_expression, ask_parts, ask_fields, ask_body}
+use Rattle.vx_compilation.specs.TreeAsking.{ask_statement, ask_statements, ask_inlined, ask_inner, ask_formal, ask_formals, ask_others, ask_infos}
+use Rattle.vx_compilation.specs.TreeAsking.{ask_source, ask_tree}
 use mathlib.Core.Former.{this, list_count}
 use Rattle.vx_compilation.specs.Readings.{bound_in, field_in, inline_in, source_in, ask_clones, ask_base, ask_heads}
 use Rattle.vx_compilation.specs.Infos.{cone_of}
-use Rattle.vx_compilation.specs.Resolved.{Seat, Names, Resolved, Parts, Fields, Stated, Statements, Inlined, Need, OfName, bound, is_plain, over, shape_of, seats_row, seat_parts, variant_for, captures, closed_scope, info_of, more_parts, more_fields, more_statements}
+use Rattle.vx_compilation.specs.Resolved.{Seat, Names, Resolved, Parts, Fields, Stated, Statements, Inlined, Need, OfName, bound, is_plain, over}
+use Rattle.vx_compilation.specs.Resolved.{shape_of, seats_row, seat_parts, variant_for, captures, closed_scope, info_of, more_parts, more_fields}
+use Rattle.vx_compilation.specs.Resolved.{more_statements}
 use Rattle.vx_answers.proofs.Below.{AsksBelow, given, low, either_below}
 
 abbrev Low : Course → Type 0

@@ -1,5 +1,6 @@
 -- What a walk comes to where all answers are given.
-use Rattle.std.proofs.Common.{List, Option, Some, None, true, false, [], ap, arith, refl, sym, subst, suc, zero, length, inl, inr, length-append, append_assoc, append-nil, ◌∷◌, ◌++◌, ◌≡◌, ◌∙◌, ◌+◌, ◌≤◌, ◌⊎◌, ℕ, nat_lt}
+use Rattle.std.proofs.Common.{List, Option, Some, None, true, false, [], ap, arith, refl, sym, subst, suc, zero, length, inl, inr, length-append}
+use Rattle.std.proofs.Common.{append_assoc, append-nil, ◌∷◌, ◌++◌, ◌≡◌, ◌∙◌, ◌+◌, ◌≤◌, ◌⊎◌, ℕ, nat_lt}
 use Rattle.std.specs.Str.{bytes_eq}
 use Rattle.std.proofs.lemmas.Bool.{cases_Bool, cond-true, cond-false, both_ways}
 use Rattle.vx_lists.specs.Members.{IsIn}

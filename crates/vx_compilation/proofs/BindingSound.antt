@@ -1,5 +1,6 @@
 -- Static binding is sound: what a send is bound to is what lookup finds, for all values that fit what is known of them.
-use Rattle.std.proofs.Common.{◌≡◌, ◌⊎◌, inl, inr, ℕ, zero, suc, ◌<◌, ◌==◌, length, ◌&&◌, ◌||◌, not, Bool, true, false, if◌then◌else◌, List, [], ◌∷◌, filter, codes, Option, Some, None, refl, sym, ap, ◌∙◌, subst, arith}
+use Rattle.std.proofs.Common.{◌≡◌, ◌⊎◌, inl, inr, ℕ, zero, suc, ◌<◌, ◌==◌, length, ◌&&◌, ◌||◌, not, Bool, true, false, if◌then◌else◌, List, [], ◌∷◌}
+use Rattle.std.proofs.Common.{filter, codes, Option, Some, None, refl, sym, ap, ◌∙◌, subst, arith}
 use Rattle.std.specs.List.{find, list_all, list_any}
 use Rattle.std.specs.Str.{bytes_eq}
 use Rattle.std.proofs.lemmas.Bool.{and_parts, and_from, or_cases, or_right, false≢true, cases_Bool, cond-true, cond-false, not-true}
@@ -48,7 +49,9 @@ use Rattle.vx_model.proofs.Choices.{is_one, same_is}
 use Rattle.vx_model.proofs.NeverStuck.{method_made}
 use Rattle.vx_compilation.specs.BindingIsSound.{IsThere, AreThere, ThingsArePlain, IsObject, IsFirstObject, SuitsKind, BindingIsSound}
 use Rattle.vx_lists.proofs.Places.{stands}
-use Rattle.vx_compilation.proofs.Asked.{name_in, in_name, chains, in_sorted, sorted_in, head_is, is_head, asked_bind, bound_nobody, int_there, string_there, closure_there, only_any, of_primitive, any_first, int_named, string_named, closure_named, any_named, prelude_up}
+use Rattle.vx_compilation.proofs.Asked.{name_in, in_name, chains, in_sorted, sorted_in, head_is, is_head, asked_bind, bound_nobody, int_there}
+use Rattle.vx_compilation.proofs.Asked.{string_there, closure_there, only_any, of_primitive, any_first, int_named, string_named, closure_named}
+use Rattle.vx_compilation.proofs.Asked.{any_named, prelude_up}
 
 module _ (program : List Decl) (well : IsProgram program) where
   there_of : (x : Bytes) (decl : Decl) → IsIn decl program → is_named x decl ≡ true → is_there program x ≡ true
@@ -452,6 +455,7 @@ module _ (program : List Decl) (well : IsProgram program) where
 
 pub binding_is_sound : BindingIsSound
 binding_is_sound = record {
-  one = λ program heap selector values infos below key own well all there fit e. bound_one program well heap all selector values infos below key own there fit e;
+  one = λ program heap selector values infos below key own well all there fit e.
+      bound_one program well heap all selector values infos below key own there fit e;
   nobody = bound_nobody;
 }

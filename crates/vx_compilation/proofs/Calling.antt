@@ -1,5 +1,6 @@
 -- Calls of trees mean calls of the text: primitives, fields, and what messages find.
-use Rattle.std.proofs.Common.{◌≡◌, ℕ, zero, suc, ◌==◌, Bool, true, false, if◌then◌else◌, List, [], ◌∷◌, length, Option, Some, None, slice_get, refl, sym, ap, ◌∙◌, subst, arith}
+use Rattle.std.proofs.Common.{◌≡◌, ℕ, zero, suc, ◌==◌, Bool, true, false, if◌then◌else◌, List, [], ◌∷◌, length, Option, Some, None, slice_get, refl}
+use Rattle.std.proofs.Common.{sym, ap, ◌∙◌, subst, arith}
 use Rattle.std.specs.Prelude.{slice_set}
 use Rattle.vx_lists.proofs.Each.{all_at}
 use Rattle.vx_lists.proofs.Places.{mapped_same}
@@ -43,7 +44,8 @@ use Rattle.vx_model.proofs.Sound.{class, IsSound, AreSound, IsHeap, IsHeld, late
 use Rattle.vx_model.proofs.Bodies.{AreFine}
 use Rattle.vx_model.proofs.NeverStuck.{held_count, allowance_fine}
 use Rattle.vx_compilation.proofs.Covers.{HasClass, has_class, AllSuit}
-use Rattle.vx_compilation.proofs.Relations.{AllPlain, beside, Rel, rel_heap, EndRel, e_gives, e_halts, e_free, message_of, direct, kind_info, found_by, CallRel, LevelsRel, end_any}
+use Rattle.vx_compilation.proofs.Relations.{AllPlain, beside, Rel, rel_heap, EndRel, e_gives, e_halts, e_free, message_of, direct, kind_info}
+use Rattle.vx_compilation.proofs.Relations.{found_by, CallRel, LevelsRel, end_any}
 use Rattle.vx_compilation.proofs.Sending.{DeedSuits, Facts, clone_suits}
 use Rattle.vx_compilation.proofs.Entering.{source_is, same_count, enter_rel, AtOk, at_ok, evaluates_rel, repeats_rel}
 

@@ -20,7 +20,8 @@ use Rattle.vx_node.specs.declared.node.Variant.TheVariants as variant
 use Rattle.vx_compilation.specs.declared.tree.TreeBlock.{TreeBlock}
 use Rattle.vx_compilation.specs.TreeMeaning.{by_name, Sends}
 use Rattle.vx_compilation.specs.Machine as machine
-use Rattle.vx_compilation.specs.Machine.{Block, PushInt, PushText, PushObject, Load, Store, NewCell, GetCell, SetCell, Close, Send, Enter, Perform, Get, Make, Pop, Leave, Mark}
+use Rattle.vx_compilation.specs.Machine.{Block, PushInt, PushText, PushObject, Load, Store, NewCell, GetCell, SetCell, Close, Send, Enter, Perform}
+use Rattle.vx_compilation.specs.Machine.{Get, Make, Pop, Leave, Mark}
 use Rattle.vx_compilation.specs.Code.{Instructions, block_code}
 use Rattle.vx_syntax.specs.Counts.{size}
 use Rattle.vx_model.specs.Kinds.{Source}

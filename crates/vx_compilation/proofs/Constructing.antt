@@ -1,5 +1,6 @@
 -- Names, constructors, resends and closures mean the same in a tree as in the text.
-use Rattle.std.proofs.Common.{◌≡◌, ◌⊎◌, inl, inr, ℕ, zero, suc, ◌+◌, ◌<◌, ◌≤◌, ◌==◌, ◌&&◌, not, Bool, true, false, if◌then◌else◌, List, [], ◌∷◌, ◌++◌, length, map, codes, Option, Some, None, is_some, slice_get, refl, sym, ap, ◌∙◌, subst, arith}
+use Rattle.std.proofs.Common.{◌≡◌, ◌⊎◌, inl, inr, ℕ, zero, suc, ◌+◌, ◌<◌, ◌≤◌, ◌==◌, ◌&&◌, not, Bool, true, false, if◌then◌else◌, List, [], ◌∷◌}
+use Rattle.std.proofs.Common.{◌++◌, length, map, codes, Option, Some, None, is_some, slice_get, refl, sym, ap, ◌∙◌, subst, arith}
 use Rattle.std.proofs.lemmas.Bool.{and_parts, and_from}
 use Rattle.std.proofs.lemmas.Bool.Decides.{nat_tests}
 use Rattle.vx_lists.specs.Members.{IsIn}
@@ -35,13 +36,18 @@ use Rattle.vx_compilation.specs.Activations.{Makes, NoSlot, Slot, captured, with
 use Rattle.vx_compilation.specs.TreeMeaning as trees
 use Rattle.vx_compilation.specs.TreeMeaning.{CodeKey, Ended, Done, Goes, Stops, Mode, Stays, Leaves, mode_of, Place, Message, Sent, Sends, Resends}
 use Rattle.vx_compilation.specs.Resolved as resolved
-use Rattle.vx_compilation.specs.Resolved.{Seat, Constant, Variable, Names, bound, local_of, info_of, seat_part, Resolved, Parts, Fields, Statements, Inlined, Inner, nothing, inner_at, expression, parts, fields, statement, body, statements, closed_scope, unknown, needs, needs_of_parts, needs_of_fields, needs_of_body, needs_of_statement, needs_of, captures, fault, first_missing, field_key, is_plain, acts_row, shape_of, seats_row, seat_parts, bound_as, sent, called, over, resent, OfName, OfFormals, argument_infos, variant_for, exactly, primitive_info}
+use Rattle.vx_compilation.specs.Resolved.{Seat, Constant, Variable, Names, bound, local_of, info_of, seat_part, Resolved, Parts, Fields, Statements}
+use Rattle.vx_compilation.specs.Resolved.{Inlined, Inner, nothing, inner_at, expression, parts, fields, statement, body, statements, closed_scope}
+use Rattle.vx_compilation.specs.Resolved.{unknown, needs, needs_of_parts, needs_of_fields, needs_of_body, needs_of_statement, needs_of, captures}
+use Rattle.vx_compilation.specs.Resolved.{fault, first_missing, field_key, is_plain, acts_row, shape_of, seats_row, seat_parts, bound_as, sent}
+use Rattle.vx_compilation.specs.Resolved.{called, over, resent, OfName, OfFormals, argument_infos, variant_for, exactly, primitive_info}
 use Rattle.vx_compilation.specs.Compiled as compiled
 use Rattle.vx_compilation.specs.Compiled.{have_slots, asked, blocks, world, selector_of, below_of, things}
 use Rattle.vx_model.proofs.Sound.{class, IsHeap, later_held, later_thing}
 use Rattle.vx_compilation.proofs.Slots.{agree_self}
 use Rattle.vx_compilation.proofs.Covers.{AllSuit, Covers, Found, HasFormals, covers_on, captured_covers, taken}
-use Rattle.vx_compilation.proofs.Relations.{NotIn, homes_push, AllPlain, Placed, inside, closure_block, HeldRel, held_length, held_push, all_later, beside, Rel, rel_heap, ExprRel, gives, halts, free}
+use Rattle.vx_compilation.proofs.Relations.{NotIn, homes_push, AllPlain, Placed, inside, closure_block, HeldRel, held_length, held_push, all_later}
+use Rattle.vx_compilation.proofs.Relations.{beside, Rel, rel_heap, ExprRel, gives, halts, free}
 use Rattle.vx_compilation.proofs.Sending.{Facts, IsFault, name_in, place}
 
 module _ (program : List Decl) (well : IsProgram program) (facts : Facts program) where

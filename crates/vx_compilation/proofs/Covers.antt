@@ -1,5 +1,6 @@
 -- What is known of values, and what is in scope, beside the locals of a block.
-use Rattle.std.proofs.Common.{◌≡◌, inl, inr, ℕ, suc, ◌+◌, ◌<◌, ◌≤◌, Bool, true, false, if◌then◌else◌, List, [], ◌∷◌, ◌++◌, length, map, codes, Option, Some, None, slice_get, refl, sym, ap, ◌∙◌, subst, arith}
+use Rattle.std.proofs.Common.{◌≡◌, inl, inr, ℕ, suc, ◌+◌, ◌<◌, ◌≤◌, Bool, true, false, if◌then◌else◌, List, [], ◌∷◌, ◌++◌, length, map, codes}
+use Rattle.std.proofs.Common.{Option, Some, None, slice_get, refl, sym, ap, ◌∙◌, subst, arith}
 use Rattle.std.specs.Option.{option_map}
 use Rattle.std.specs.Str.{bytes_eq}
 use Rattle.vx_lists.specs.Members.{IsIn}
@@ -20,7 +21,8 @@ use Rattle.vx_model.specs.Holds.{class_of}
 use Rattle.vx_model.specs.Meaning as mean
 use Rattle.vx_compilation.specs.Infos.{Fits, AllFit}
 use Rattle.vx_compilation.specs.Activations.{Slot, Plain, Cell, captured}
-use Rattle.vx_compilation.specs.Resolved.{Seat, Constant, Variable, Names, bound, local_of, Need, OfName, OfFormals, locals_for, all_locals_for, captures, place_in, moved, moved_name, formal_names, formal_seats, seat_local, unknown}
+use Rattle.vx_compilation.specs.Resolved.{Seat, Constant, Variable, Names, bound, local_of, Need, OfName, OfFormals, locals_for, all_locals_for}
+use Rattle.vx_compilation.specs.Resolved.{captures, place_in, moved, moved_name, formal_names, formal_seats, seat_local, unknown}
 use Rattle.vx_model.proofs.Sound.{IsLater, as_late, class, classes, IsSound}
 use Rattle.vx_compilation.proofs.Slots.{Agree, IsSet, AreSet, Captures, captures_are, once_has, once_only, placed_at, placed_within}
 

@@ -1,5 +1,6 @@
 -- Activations of trees mean those of the text: what is inlined, methods that are entered, closures that are evaluated.
-use Rattle.std.proofs.Common.{◌≡◌, inl, inr, ℕ, zero, suc, ◌+◌, ◌-◌, ◌<◌, ◌≤◌, ◌==◌, ◌&&◌, Bool, true, false, if◌then◌else◌, List, [], ◌∷◌, ◌++◌, length, map, Option, Some, None, slice_get, refl, sym, ap, ◌∙◌, subst, arith, append-nil}
+use Rattle.std.proofs.Common.{◌≡◌, inl, inr, ℕ, zero, suc, ◌+◌, ◌-◌, ◌<◌, ◌≤◌, ◌==◌, ◌&&◌, Bool, true, false, if◌then◌else◌, List, [], ◌∷◌, ◌++◌}
+use Rattle.std.proofs.Common.{length, map, Option, Some, None, slice_get, refl, sym, ap, ◌∙◌, subst, arith, append-nil}
 use Rattle.std.proofs.lemmas.Bool.{and_parts, false≢true, eqb-true}
 use Rattle.std.proofs.lemmas.Bool.Decides.{nat_tests}
 use Rattle.std.proofs.lemmas.List.{length-map}
@@ -35,7 +36,8 @@ use Rattle.vx_compilation.specs.TreeMeaning as trees
 use Rattle.vx_compilation.specs.TreeMeaning.{CodeKey, Ended, Done, Goes, Stops, Mode, Stays, Leaves, mode_of, Message, Sent}
 use Rattle.vx_compilation.specs.Inlining.{inline, inlined_size, is_flat_body}
 use Rattle.vx_compilation.specs.Resolved as resolved
-use Rattle.vx_compilation.specs.Resolved.{Names, Inlined, Inner, inner_at, nothing, inlined, numbers, statements, closed_scope, unknown, Need, OfName, OfFormals, needs_of, formal_names, argument_infos, bound, primitive_info}
+use Rattle.vx_compilation.specs.Resolved.{Names, Inlined, Inner, inner_at, nothing, inlined, numbers, statements, closed_scope, unknown, Need}
+use Rattle.vx_compilation.specs.Resolved.{OfName, OfFormals, needs_of, formal_names, argument_infos, bound, primitive_info}
 use Rattle.vx_model.specs.Kinds.{maker, source_by}
 use Rattle.vx_compilation.specs.Compiled.{asked, blocks, world}
 use Rattle.vx_model.proofs.Sound.{IsLater, AreSound, IsHeap, IsHeld, IsBinding, AreBindings, still_held}
@@ -43,8 +45,11 @@ use Rattle.vx_model.proofs.Bodies.{IsFine, AreFine, IsFrame}
 use Rattle.vx_model.proofs.NeverStuck.{own_name, no_variable, no_formal, bound_behind, all_named, evaluated_fine}
 use Rattle.vx_model.proofs.MethodTexts.{method_is}
 use Rattle.vx_compilation.proofs.Slots.{at_front, argument_at, length_opened, puts}
-use Rattle.vx_compilation.proofs.Covers.{AllSuit, suit_count, Covers, Has, Found, covers_same, given_scope, HasArguments, found_formals, has_formals, unknown_suit, named_arguments, taken}
-use Rattle.vx_compilation.proofs.Relations.{NotIn, not_in_next, Homes, Placed, placed_from, inside, closure_block, HeldRel, held_later, HeldAll, beside, Rel, rel_floor, rel_bump, rel_next, BodyRel, EndRel, e_gives, e_halts, e_free, LevelsRel, body_shift, caught_rel, passed_rel}
+use Rattle.vx_compilation.proofs.Covers.{AllSuit, suit_count, Covers, Has, Found, covers_same, given_scope, HasArguments, found_formals, has_formals}
+use Rattle.vx_compilation.proofs.Covers.{unknown_suit, named_arguments, taken}
+use Rattle.vx_compilation.proofs.Relations.{NotIn, not_in_next, Homes, Placed, placed_from, inside, closure_block, HeldRel, held_later, HeldAll}
+use Rattle.vx_compilation.proofs.Relations.{beside, Rel, rel_floor, rel_bump, rel_next, BodyRel, EndRel, e_gives, e_halts, e_free, LevelsRel}
+use Rattle.vx_compilation.proofs.Relations.{body_shift, caught_rel, passed_rel}
 use Rattle.vx_compilation.proofs.Sending.{Facts, method_frame, begins, InlineOk, InnerOk, nothing_ok}
 use Rattle.vx_compilation.proofs.Resolving.{LeavesOk, body_rel, statements_grow, last_nil}
 

@@ -1,5 +1,6 @@
 -- Inlined calls in the trees of a program have as many formals as arguments.
-use Rattle.std.proofs.Common.{◌==◌, ◌≡◌, ℕ, zero, suc, ◌+◌, ◌&&◌, Bool, true, false, if◌then◌else◌, List, [], ◌∷◌, ◌++◌, length, map, filter, Option, Some, None, slice_get, refl, sym, ap, ◌∙◌, subst, arith}
+use Rattle.std.proofs.Common.{◌==◌, ◌≡◌, ℕ, zero, suc, ◌+◌, ◌&&◌, Bool, true, false, if◌then◌else◌, List, [], ◌∷◌, ◌++◌, length, map, filter, Option}
+use Rattle.std.proofs.Common.{Some, None, slice_get, refl, sym, ap, ◌∙◌, subst, arith}
 use Rattle.std.specs.Prelude.{nat_le, ℤ, pos, int_div, int_rem, ◌+ℤ◌, ◌-ℤ◌, ◌*ℤ◌}
 use Rattle.std.specs.Ordering.{int_eq}
 use Rattle.std.specs.List.{find}
@@ -29,7 +30,8 @@ use Rattle.vx_node.specs.declared.answer.Bound.TheVariants as b
 use Rattle.vx_compilation.specs.declared.tree.TreeBlock.{TreeBlock}
 use Rattle.vx_compilation.specs.declared.tree.Part as p
 use Rattle.vx_compilation.specs.declared.tree.Act as a
-use Rattle.vx_model.specs.Primitives.{Operation, Add, Subtract, Multiply, Divide, Remainder, Less, SameNumber, SameString, Join, Same, PrintNumber, PrintString, Evaluate, Repeat, operations, deed, of_numbers, of_strings, two_numbers, two_strings}
+use Rattle.vx_model.specs.Primitives.{Operation, Add, Subtract, Multiply, Divide, Remainder, Less, SameNumber, SameString, Join, Same, PrintNumber}
+use Rattle.vx_model.specs.Primitives.{PrintString, Evaluate, Repeat, operations, deed, of_numbers, of_strings, two_numbers, two_strings}
 use Rattle.vx_model.specs.Primitives as pr
 use Rattle.vx_model.specs.Values.{truth}
 use Rattle.vx_model.specs.Meaning as mean
@@ -37,7 +39,9 @@ use Rattle.vx_compilation.specs.Fits.{Fits, FitAll, FitNew, FitBody, FitAct, Fit
 use Rattle.vx_compilation.specs.Binding.{Order, at_each, is_sure, is_candidate, is_bound_to, chosen, bind}
 use Rattle.vx_compilation.specs.Inlining.{inline, inlined_size, is_flat_body}
 use Rattle.vx_compilation.specs.Resolved as resolved
-use Rattle.vx_compilation.specs.Resolved.{Seat, Names, bound, Resolved, Parts, Fields, Statements, Inlined, Inner, nothing, inner_at, inlined, numbers, expression, parts, fields, statement, body, statements, called, bound_as, over, acts_row, shape_of, seats_row, seat_parts, info_of, fault, closed_scope, captures, needs_of_body, argument_infos}
+use Rattle.vx_compilation.specs.Resolved.{Seat, Names, bound, Resolved, Parts, Fields, Statements, Inlined, Inner, nothing, inner_at, inlined}
+use Rattle.vx_compilation.specs.Resolved.{numbers, expression, parts, fields, statement, body, statements, called, bound_as, over, acts_row}
+use Rattle.vx_compilation.specs.Resolved.{shape_of, seats_row, seat_parts, info_of, fault, closed_scope, captures, needs_of_body, argument_infos}
 use Rattle.vx_model.specs.Kinds.{maker, source_by}
 use Rattle.vx_compilation.specs.Compiled.{asked, blocks, world, order, heads}
 use mathlib.Core.Former.{this, list_count}

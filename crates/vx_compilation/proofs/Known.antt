@@ -1,5 +1,6 @@
 -- What is known of values is true: of arguments, of named objects, and of what primitives give.
-use Rattle.std.proofs.Common.{◌≡◌, inl, ℕ, zero, suc, ◌+◌, ◌<◌, Bool, true, false, if◌then◌else◌, List, [], ◌∷◌, ◌++◌, length, map, codes, Option, Some, None, slice_get, refl, sym, ap, ◌∙◌, subst, arith}
+use Rattle.std.proofs.Common.{◌≡◌, inl, ℕ, zero, suc, ◌+◌, ◌<◌, Bool, true, false, if◌then◌else◌, List, [], ◌∷◌, ◌++◌, length, map, codes, Option}
+use Rattle.std.proofs.Common.{Some, None, slice_get, refl, sym, ap, ◌∙◌, subst, arith}
 use Rattle.std.specs.Prelude.{ℤ, pos, int_lt, int_div, int_rem, nat_le, ◌+ℤ◌, ◌-ℤ◌, ◌*ℤ◌}
 use Rattle.std.specs.List.{position_or_len}
 use Rattle.std.specs.Ordering.{int_eq}
@@ -28,7 +29,8 @@ use Rattle.vx_model.specs.Order.{plain_names, base, cone}
 use Rattle.vx_model.specs.Holds.{class_of, holds}
 use Rattle.vx_model.specs.Lookup.{are_held}
 use Rattle.vx_model.specs.Values.{object, nil, truth, is_meant}
-use Rattle.vx_model.specs.Primitives.{Operation, Evaluate, operations, deed, fits, number, divided, remainder, joined, same, same_value, two_numbers, two_strings, of_numbers, of_strings, print_number, print_string, evaluate, repeat}
+use Rattle.vx_model.specs.Primitives.{Operation, Evaluate, operations, deed, fits, number, divided, remainder, joined, same, same_value, two_numbers}
+use Rattle.vx_model.specs.Primitives.{two_strings, of_numbers, of_strings, print_number, print_string, evaluate, repeat}
 use Rattle.vx_compilation.specs.Infos.{formal_info, cone_of}
 use Rattle.vx_compilation.specs.Resolved.{argument_infos, exactly, primitive_infos}
 use Rattle.vx_compilation.specs.Compiled.{asked}

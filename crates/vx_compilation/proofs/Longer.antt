@@ -1,5 +1,6 @@
 -- More instructions: a report that is over stays, and one that is not goes on from its lines. And what it is to look ahead.
-use Rattle.std.proofs.Common.{◌≡◌, ℕ, zero, suc, ◌≤◌, ◌==◌, Bool, true, false, List, [], ◌∷◌, ◌++◌, length, Option, Some, None, slice_get, refl, ap, ◌∙◌, arith, append_assoc}
+use Rattle.std.proofs.Common.{◌≡◌, ℕ, zero, suc, ◌≤◌, ◌==◌, Bool, true, false, List, [], ◌∷◌, ◌++◌, length, Option, Some, None, slice_get, refl, ap}
+use Rattle.std.proofs.Common.{◌∙◌, arith, append_assoc}
 use Rattle.vx_syntax.specs.Expressions.{Bytes}
 use Rattle.vx_model.specs.declared.value.Value.{Value}
 use Rattle.vx_model.specs.declared.value.Value.TheVariants as v
@@ -9,9 +10,11 @@ use Rattle.vx_model.specs.declared.report.Report.TheVariants as reports
 use Rattle.vx_model.specs.declared.primitives.Deed.{Deed}
 use Rattle.vx_model.specs.declared.primitives.Deed.TheVariants as deeds
 use Rattle.vx_model.specs.Reports.{lines_of, GoesOn}
-use Rattle.vx_compilation.specs.Activations.{Symbols, Making, Makes, NoSlot, NoClass, Slot, Unset, Plain, Cell, Closed, State, World, Target, ToCode, ToPrimitive, ToGetter, ToSetter, ToError, ToNothing, stored, captured, with_line, with_objects}
+use Rattle.vx_compilation.specs.Activations.{Symbols, Making, Makes, NoSlot, NoClass, Slot, Unset, Plain, Cell, Closed, State, World, Target, ToCode}
+use Rattle.vx_compilation.specs.Activations.{ToPrimitive, ToGetter, ToSetter, ToError, ToNothing, stored, captured, with_line, with_objects}
 use Rattle.vx_compilation.specs.Machine as machine
-use Rattle.vx_compilation.specs.Machine.{Instruction, Frame, Role, Method, Evaluation, Turn, home_of, Block, Codes, Machine, Stepped, On, Over, Stops, Finds, Lacks, going, delivered, below, unwound, popped, act, taken, step, comes, run_report}
+use Rattle.vx_compilation.specs.Machine.{Instruction, Frame, Role, Method, Evaluation, Turn, home_of, Block, Codes, Machine, Stepped, On, Over}
+use Rattle.vx_compilation.specs.Machine.{Stops, Finds, Lacks, going, delivered, below, unwound, popped, act, taken, step, comes, run_report}
 use Rattle.vx_model.proofs.Grows.{Begins, begins_self, begins_more}
 
 -- The same without a look at what the state lacks when the count is used up.

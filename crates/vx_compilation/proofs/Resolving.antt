@@ -1,5 +1,6 @@
 -- The tree of an expression means the expression, where what is inlined in it is right.
-use Rattle.std.proofs.Common.{◌≡◌, ◌⊎◌, inl, inr, ℕ, suc, ◌+◌, ◌<◌, ◌≤◌, ◌&&◌, Bool, true, false, if◌then◌else◌, List, [], ◌∷◌, ◌++◌, length, map, codes, Option, Some, None, slice_get, refl, sym, ap, ◌∙◌, subst, arith}
+use Rattle.std.proofs.Common.{◌≡◌, ◌⊎◌, inl, inr, ℕ, suc, ◌+◌, ◌<◌, ◌≤◌, ◌&&◌, Bool, true, false, if◌then◌else◌, List, [], ◌∷◌, ◌++◌, length, map}
+use Rattle.std.proofs.Common.{codes, Option, Some, None, slice_get, refl, sym, ap, ◌∙◌, subst, arith}
 use Rattle.std.proofs.lemmas.Bool.{and_parts, false≢true}
 use Rattle.std.specs.Prelude.{slice_set}
 use Rattle.std.proofs.lemmas.List.{length_push}
@@ -28,15 +29,21 @@ use Rattle.vx_compilation.specs.TreeMeaning as trees
 use Rattle.vx_compilation.specs.TreeMeaning.{CodeKey, Ended, Done, Goes, Stops, Mode, Stays, Leaves, mode_of, Place, Message, Sent, Sends, Resends}
 use Rattle.vx_compilation.specs.Inlining.{is_flat, are_flat, are_fields_flat, is_flat_body}
 use Rattle.vx_compilation.specs.Resolved as resolved
-use Rattle.vx_compilation.specs.Resolved.{Seat, Constant, Variable, Names, bound, local_of, info_of, seat_part, Resolved, Parts, Fields, Statements, Inlined, Inner, nothing, inner_at, expression, parts, fields, statement, body, statements, closed_scope, unknown, needs, needs_of_parts, needs_of_fields, needs_of_body, needs_of_statement, needs_of, captures, fault, first_missing, field_key, is_plain, acts_row, shape_of, seats_row, seat_parts, bound_as, sent, called, over, resent, OfName, OfFormals, argument_infos, variant_for, exactly, primitive_info}
+use Rattle.vx_compilation.specs.Resolved.{Seat, Constant, Variable, Names, bound, local_of, info_of, seat_part, Resolved, Parts, Fields, Statements}
+use Rattle.vx_compilation.specs.Resolved.{Inlined, Inner, nothing, inner_at, expression, parts, fields, statement, body, statements, closed_scope}
+use Rattle.vx_compilation.specs.Resolved.{unknown, needs, needs_of_parts, needs_of_fields, needs_of_body, needs_of_statement, needs_of, captures}
+use Rattle.vx_compilation.specs.Resolved.{fault, first_missing, field_key, is_plain, acts_row, shape_of, seats_row, seat_parts, bound_as, sent}
+use Rattle.vx_compilation.specs.Resolved.{called, over, resent, OfName, OfFormals, argument_infos, variant_for, exactly, primitive_info}
 use Rattle.vx_compilation.specs.Compiled.{asked, blocks, world}
 use Rattle.vx_model.proofs.Sound.{as_late, later_on, class, IsHeap, still_sound, later_value, later_value_at, heap_with_value, heap_with_value_at}
 use Rattle.vx_model.proofs.Bodies.{AreFine, IsFrame, still_frame, let_frame, var_frame, expression_fine}
 use Rattle.vx_compilation.proofs.Slots.{agree_self, agree_on, agree_store, stores}
 use Rattle.vx_compilation.proofs.Covers.{Suits, suits_later, Covers, Found, covers_on, covers_front, covers_behind, covers_name}
-use Rattle.vx_compilation.proofs.Relations.{NotIn, Placed, placed_front, placed_behind, closure_block, beside, Rel, rel_heap, ExprRel, gives, halts, free, BodyRel, b_gives, b_halts, b_stays, b_free, LevelsRel, expr_shift, body_shift, then_rel, then_body}
+use Rattle.vx_compilation.proofs.Relations.{NotIn, Placed, placed_front, placed_behind, closure_block, beside, Rel, rel_heap, ExprRel, gives, halts}
+use Rattle.vx_compilation.proofs.Relations.{free, BodyRel, b_gives, b_halts, b_stays, b_free, LevelsRel, expr_shift, body_shift, then_rel, then_body}
 use Rattle.vx_compilation.proofs.Sending.{Facts, bound_rel, place, InnerOk, nothing_ok, blocks_of_bound, next_of_bound, AfterParts, AfterFields}
-use Rattle.vx_compilation.proofs.Constructing.{named_rel, seats_rel, seats_suit, fault_cases, made_slots, made_rel, body_row, needs_row, closing_rel, failing_rel}
+use Rattle.vx_compilation.proofs.Constructing.{named_rel, seats_rel, seats_suit, fault_cases, made_slots, made_rel, body_row, needs_row, closing_rel}
+use Rattle.vx_compilation.proofs.Constructing.{failing_rel}
 
 module _ (program : List Decl) (well : IsProgram program) (facts : Facts program) where
   -- ---- texts, where what is inlined in them is right
@@ -283,8 +290,10 @@ module _ (program : List Decl) (well : IsProgram program) (facts : Facts program
           ExprRel program av floor n info ls (mean.fields program row lv frame st go)
           (trees.all (trees.new_parts (world program) (blocks program) (fields (asked program) method inner scope class b n row).row)
           ((place program well facts) code ph) lv' ls (beside st hs) go')
-      fields_rel x.end_of-Expr-New-1-2 names scope static class frame code b n ph av floor wr stands lv lv' fine r ls st hs is f cover long h info go go' next = next [] st hs ls is (as_late st.heap) tt (agree_self n ls) h
-      fields_rel (x.more_of-Expr-New-1-2 name own rest) names scope static class frame code b n ph av floor wr stands lv lv' fine r ls st hs is f cover long h info go go' next =
+      fields_rel x.end_of-Expr-New-1-2 names scope static class frame code b n ph av floor wr stands lv lv' fine r ls st hs is f cover long
+          h info go go' next = next [] st hs ls is (as_late st.heap) tt (agree_self n ls) h
+      fields_rel (x.more_of-Expr-New-1-2 name own rest) names scope static class frame code b n ph av floor wr stands lv lv' fine r ls st
+          hs is f cover long h info go go' next =
           let first = expression (asked program) method inner scope b n own in
           let others = fields (asked program) method inner scope class (b + length first.blocks) first.next rest in
           let grown = next_grows own scope b n in

@@ -1,5 +1,6 @@
 -- The machine follows the meaning of trees.
-use Rattle.std.proofs.Common.{◌≡◌, ℕ, zero, suc, ◌+◌, ◌≤◌, ◌==◌, Bool, true, false, List, [], ◌∷◌, length, map, Option, Some, None, slice_get, refl, ap, ◌∙◌, arith}
+use Rattle.std.proofs.Common.{◌≡◌, ℕ, zero, suc, ◌+◌, ◌≤◌, ◌==◌, Bool, true, false, List, [], ◌∷◌, length, map, Option, Some, None, slice_get, refl}
+use Rattle.std.proofs.Common.{ap, ◌∙◌, arith}
 use Rattle.vx_names.specs.declared.key.FieldKey.{FieldKey}
 use Rattle.vx_syntax.specs.Expressions.{Bytes}
 use Rattle.vx_model.specs.declared.value.Value.{Value}
@@ -15,17 +16,24 @@ use Rattle.vx_compilation.specs.declared.tree.TreeBlock.{TreeBlock}
 use Rattle.vx_compilation.specs.declared.tree.Part as p
 use Rattle.vx_compilation.specs.declared.tree.Act as a
 use Rattle.vx_model.specs.Meaning.{Back, Fails, Out, Stuck}
-use Rattle.vx_compilation.specs.Activations.{Making, Makes, NoSlot, NoClass, Slot, Unset, Plain, Cell, Target, ToCode, ToPrimitive, ToGetter, ToSetter, ToError, ToNothing, stored, opened, captured, with_cell, with_closure, with_content, counted}
+use Rattle.vx_compilation.specs.Activations.{Making, Makes, NoSlot, NoClass, Slot, Unset, Plain, Cell, Target, ToCode, ToPrimitive, ToGetter}
+use Rattle.vx_compilation.specs.Activations.{ToSetter, ToError, ToNothing, stored, opened, captured, with_cell, with_closure, with_content, counted}
 use Rattle.vx_compilation.specs.Activations as activations
 use Rattle.vx_compilation.specs.TreeMeaning as trees
-use Rattle.vx_compilation.specs.TreeMeaning.{by_name, World, State, Closure, Blocks, CodeKey, Ended, Gives, Ends, Done, Goes, Stops, Call, Message, Primitive, Getting, Setting, Entering, Failing, Sends, Resends, Levels, Place, Meaning, after, all, back_to, Effect, Let, LetVar, Set, Statement, Does, Do, Return, Mode, Stays, Leaves, mode_of, levels, field_keys}
+use Rattle.vx_compilation.specs.TreeMeaning.{by_name, World, State, Closure, Blocks, CodeKey, Ended, Gives, Ends, Done, Goes, Stops, Call, Message}
+use Rattle.vx_compilation.specs.TreeMeaning.{Primitive, Getting, Setting, Entering, Failing, Sends, Resends, Levels, Place, Meaning, after, all}
+use Rattle.vx_compilation.specs.TreeMeaning.{back_to, Effect, Let, LetVar, Set, Statement, Does, Do, Return, Mode, Stays, Leaves, mode_of, levels}
+use Rattle.vx_compilation.specs.TreeMeaning.{field_keys}
 use Rattle.vx_compilation.specs.Machine as machine
-use Rattle.vx_compilation.specs.Machine.{Instruction, Frame, frame, Role, Method, Evaluation, Turn, home_of, Stepped, On, Block, Codes, going, delivered, below, below_role, unwound, popped}
+use Rattle.vx_compilation.specs.Machine.{Instruction, Frame, frame, Role, Method, Evaluation, Turn, home_of, Stepped, On, Block, Codes, going}
+use Rattle.vx_compilation.specs.Machine.{delivered, below, below_role, unwound, popped}
 use Rattle.vx_compilation.specs.Code as c
 use Rattle.vx_compilation.specs.Code.{Instructions, Code, in_order, statements_code, codes_of, code_of, block_code}
 use Rattle.vx_compilation.specs.Fits as f
 use Rattle.vx_compilation.specs.Fits.{Fits, FitAll, FitNew, FitBody, FitAct, FitActs, FitBlock, AllFit, IsGiven, IsGivenBy, AllGiven}
-use Rattle.vx_compilation.proofs.Steps.{Frames, push_all, popped_all, prog, on, ex, anew, place, homes, Runs, looser, stepped, led, then_runs, CallOk, Good, Sim, AllSim, all_runs, calls_sim, makes_sim, failing_sim, literal_sim, local_sim, cell_sim, closure_sim}
+use Rattle.vx_compilation.proofs.Steps.{Frames, push_all, popped_all, prog, on, ex, anew, place, homes, Runs, looser, stepped, led, then_runs}
+use Rattle.vx_compilation.proofs.Steps.{CallOk, Good, Sim, AllSim, all_runs, calls_sim, makes_sim, failing_sim, literal_sim, local_sim, cell_sim}
+use Rattle.vx_compilation.proofs.Steps.{closure_sim}
 
 module _ (w : World) (bs : Blocks) where
   -- ---- statements

@@ -9,9 +9,12 @@ use Rattle.vx_model.specs.declared.report.Report.TheVariants as reports
 use Rattle.vx_model.specs.declared.primitives.Deed.{Deed}
 use Rattle.vx_model.specs.declared.primitives.Deed.TheVariants as deeds
 use Rattle.vx_compilation.specs.Activations as activations
-use Rattle.vx_compilation.specs.Activations.{Symbols, Making, Slot, Unset, Plain, Cell, Closed, State, World, Target, ToCode, ToPrimitive, ToGetter, ToSetter, ToError, ToNothing, stored, opened, captured}
+use Rattle.vx_compilation.specs.Activations.{Symbols, Making, Slot, Unset, Plain, Cell, Closed, State, World, Target, ToCode, ToPrimitive, ToGetter}
+use Rattle.vx_compilation.specs.Activations.{ToSetter, ToError, ToNothing, stored, opened, captured}
 use Rattle.vx_compilation.specs.Machine as machine
-use Rattle.vx_compilation.specs.Machine.{Instruction, Frame, Role, Method, Evaluation, Turn, home_of, Block, Codes, Machine, Stepped, On, Over, Stops, Finds, Lacks, going, delivered, below, below_at, below_role, unwound, popped, act, taken, step, comes, run_report}
+use Rattle.vx_compilation.specs.Machine.{Instruction, Frame, Role, Method, Evaluation, Turn, home_of, Block, Codes, Machine, Stepped, On, Over}
+use Rattle.vx_compilation.specs.Machine.{Stops, Finds, Lacks, going, delivered, below, below_at, below_role, unwound, popped, act, taken, step}
+use Rattle.vx_compilation.specs.Machine.{comes, run_report}
 use Rattle.vx_compilation.specs.Alike as al
 use Rattle.vx_compilation.specs.Alike.{Matching, FieldsAlike, TargetAlike, MakingAlike, PutAlike, InstructionAlike, CodeAlike, BlockAlike, BlocksAlike, Alike}
 

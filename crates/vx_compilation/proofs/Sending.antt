@@ -1,5 +1,6 @@
 -- Sends, and what stands for them, mean the same in a tree as in the text.
-use Rattle.std.proofs.Common.{◌≡◌, ℕ, zero, suc, ◌≤◌, Bool, true, false, if◌then◌else◌, List, [], ◌∷◌, length, map, codes, Option, Some, None, slice_get, refl, sym, ap, ◌∙◌, subst, arith}
+use Rattle.std.proofs.Common.{◌≡◌, ℕ, zero, suc, ◌≤◌, Bool, true, false, if◌then◌else◌, List, [], ◌∷◌, length, map, codes, Option, Some, None}
+use Rattle.std.proofs.Common.{slice_get, refl, sym, ap, ◌∙◌, subst, arith}
 use Rattle.std.specs.Prelude.{slice_set}
 use Rattle.vx_lists.specs.Members.{IsIn}
 use Rattle.std.specs.Str.{bytes_eq}
@@ -39,7 +40,11 @@ use Rattle.vx_compilation.specs.TreeMeaning as trees
 use Rattle.vx_compilation.specs.TreeMeaning.{CodeKey, Ended, Done, Goes, Stops, Mode, Stays, Leaves, mode_of, Place, Message, Sent, Sends, Resends}
 use Rattle.vx_compilation.specs.Questions.{Asked}
 use Rattle.vx_compilation.specs.Resolved as resolved
-use Rattle.vx_compilation.specs.Resolved.{Seat, Constant, Variable, Names, bound, local_of, info_of, seat_part, Resolved, Parts, Fields, Statements, Inlined, Inner, nothing, inner_at, expression, parts, fields, statement, body, statements, closed_scope, unknown, needs, needs_of_parts, needs_of_fields, needs_of_body, needs_of_statement, needs_of, captures, fault, first_missing, field_key, is_plain, acts_row, shape_of, seats_row, seat_parts, bound_as, sent, called, over, resent, OfName, OfFormals, argument_infos, variant_for, exactly, primitive_info}
+use Rattle.vx_compilation.specs.Resolved.{Seat, Constant, Variable, Names, bound, local_of, info_of, seat_part, Resolved, Parts, Fields, Statements}
+use Rattle.vx_compilation.specs.Resolved.{Inlined, Inner, nothing, inner_at, expression, parts, fields, statement, body, statements, closed_scope}
+use Rattle.vx_compilation.specs.Resolved.{unknown, needs, needs_of_parts, needs_of_fields, needs_of_body, needs_of_statement, needs_of, captures}
+use Rattle.vx_compilation.specs.Resolved.{fault, first_missing, field_key, is_plain, acts_row, shape_of, seats_row, seat_parts, bound_as, sent}
+use Rattle.vx_compilation.specs.Resolved.{called, over, resent, OfName, OfFormals, argument_infos, variant_for, exactly, primitive_info}
 use Rattle.vx_compilation.specs.BindingIsSound.{SuitsKind}
 use Rattle.vx_model.specs.Kinds.{kind, kind_by, maker, source_by}
 use Rattle.vx_compilation.specs.Compiled.{asked, blocks, world, selector_of, below_of, things}
@@ -49,7 +54,8 @@ use Rattle.vx_model.proofs.Bodies.{AreFine}
 use Rattle.vx_model.proofs.NeverStuck.{held_count}
 use Rattle.vx_compilation.proofs.Slots.{Agree}
 use Rattle.vx_compilation.proofs.Covers.{HasClass, Suits, AllSuit, given_scope, named_arguments}
-use Rattle.vx_compilation.proofs.Relations.{AllPlain, beside, Rel, ExprRel, halts, BodyRel, message_of, direct, kind_info, found_by, LevelsRel, back_rel, caught_expr}
+use Rattle.vx_compilation.proofs.Relations.{AllPlain, beside, Rel, ExprRel, halts, BodyRel, message_of, direct, kind_info, found_by, LevelsRel}
+use Rattle.vx_compilation.proofs.Relations.{back_rel, caught_expr}
 
 -- what is known of what a primitive does
 abbrev pub DeedSuits : List Decl → Heap → Info → Deed → Type 0

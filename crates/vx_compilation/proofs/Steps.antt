@@ -1,5 +1,6 @@
 -- Parts of trees as instructions that run: what it is to run, and the small parts.
-use Rattle.std.proofs.Common.{◌≡◌, ℕ, suc, ◌+◌, ◌≤◌, ◌==◌, Bool, true, false, List, [], ◌∷◌, ◌++◌, length, Option, Some, None, slice_get, refl, sym, ap, ◌∙◌, subst, arith, append-nil}
+use Rattle.std.proofs.Common.{◌≡◌, ℕ, suc, ◌+◌, ◌≤◌, ◌==◌, Bool, true, false, List, [], ◌∷◌, ◌++◌, length, Option, Some, None, slice_get, refl, sym}
+use Rattle.std.proofs.Common.{ap, ◌∙◌, subst, arith, append-nil}
 use Rattle.vx_names.specs.declared.key.FieldKey.{FieldKey}
 use Rattle.vx_syntax.specs.Expressions.{Bytes}
 use Rattle.vx_model.specs.declared.value.Value.{Value}
@@ -12,9 +13,13 @@ use Rattle.vx_compilation.specs.declared.tree.TreeBlock.{TreeBlock}
 use Rattle.vx_model.specs.Meaning.{Back, Fails, Out, Stuck}
 use Rattle.vx_compilation.specs.Activations.{Making, Makes, NoSlot, NoClass, Slot, Unset, Plain, Cell, captured, with_closure}
 use Rattle.vx_compilation.specs.TreeMeaning as trees
-use Rattle.vx_compilation.specs.TreeMeaning.{by_name, World, State, Closure, Blocks, CodeKey, Ended, Gives, Ends, Done, Goes, Stops, Call, Message, Primitive, Getting, Setting, Entering, Failing, Sends, Resends, Levels, Place, Meaning, after, all, back_to, Effect, Let, LetVar, Set, Statement, Does, Do, Return, Mode, Stays, Leaves, mode_of, levels, field_keys}
+use Rattle.vx_compilation.specs.TreeMeaning.{by_name, World, State, Closure, Blocks, CodeKey, Ended, Gives, Ends, Done, Goes, Stops, Call, Message}
+use Rattle.vx_compilation.specs.TreeMeaning.{Primitive, Getting, Setting, Entering, Failing, Sends, Resends, Levels, Place, Meaning, after, all}
+use Rattle.vx_compilation.specs.TreeMeaning.{back_to, Effect, Let, LetVar, Set, Statement, Does, Do, Return, Mode, Stays, Leaves, mode_of, levels}
+use Rattle.vx_compilation.specs.TreeMeaning.{field_keys}
 use Rattle.vx_compilation.specs.Machine as machine
-use Rattle.vx_compilation.specs.Machine.{Instruction, Frame, frame, Role, Method, Evaluation, Turn, home_of, Stepped, On, Block, Codes, going, delivered, below, below_role, unwound, popped}
+use Rattle.vx_compilation.specs.Machine.{Instruction, Frame, frame, Role, Method, Evaluation, Turn, home_of, Stepped, On, Block, Codes, going}
+use Rattle.vx_compilation.specs.Machine.{delivered, below, below_role, unwound, popped}
 use Rattle.vx_compilation.specs.Code as c
 use Rattle.vx_compilation.specs.Code.{Instructions, Code, in_order, statements_code, codes_of, code_of, block_code}
 use Rattle.vx_compilation.proofs.Longer.{ran}

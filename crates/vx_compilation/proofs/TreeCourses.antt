@@ -1,5 +1,6 @@
 -- The course of questions for a tree gives the tree, which so depends on what is read alone.
-use Rattle.std.proofs.Common.{◌≡◌, ℕ, zero, suc, ◌+◌, not, ◌&&◌, Bool, true, false, if◌then◌else◌, List, [], ◌∷◌, ◌++◌, length, map, Option, Some, None, refl, sym, ap, ◌∙◌}
+use Rattle.std.proofs.Common.{◌≡◌, ℕ, zero, suc, ◌+◌, not, ◌&&◌, Bool, true, false, if◌then◌else◌, List, [], ◌∷◌, ◌++◌, length, map, Option, Some}
+use Rattle.std.proofs.Common.{None, refl, sym, ap, ◌∙◌}
 use Rattle.std.specs.Prelude.{slice_set}
 use Rattle.std.specs.List.{list_any, position_from}
 use Rattle.std.specs.Str.{bytes_eq}
@@ -28,12 +29,20 @@ use Rattle.vx_model.specs.Kinds.{Source}
 use Rattle.vx_compilation.specs.Questions.{Asked}
 use Rattle.vx_compilation.specs.Infos.{formal_info, cone_of}
 use Rattle.vx_compilation.specs.Resolved as resolved
-use Rattle.vx_compilation.specs.Resolved.{Seat, Names, Resolved, Parts, Fields, Stated, Statements, Inlined, Inner, Need, OfName, bound, nothing, inner_at, inlined, is_plain, over, shape_of, seats_row, seat_parts, variant_for, first_missing, fault, needs, needs_of_parts, needs_of_fields, needs_of_body, needs_of_statement, expression, parts, fields, body, statement, statements, captures, closed_scope, called, bound_as, info_of, more_parts, more_fields, more_statements, argument_infos, tree}
+use Rattle.vx_compilation.specs.Resolved.{Seat, Names, Resolved, Parts, Fields, Stated, Statements, Inlined, Inner, Need, OfName, bound, nothing}
+use Rattle.vx_compilation.specs.Resolved.{inner_at, inlined, is_plain, over, shape_of, seats_row, seat_parts, variant_for, first_missing, fault}
+use Rattle.vx_compilation.specs.Resolved.{needs, needs_of_parts, needs_of_fields, needs_of_body, needs_of_statement, expression, parts, fields, body}
+use Rattle.vx_compilation.specs.Resolved.{statement, statements, captures, closed_scope, called, bound_as, info_of, more_parts, more_fields}
+use Rattle.vx_compilation.specs.Resolved.{more_statements, argument_infos, tree}
 use Rattle.vx_node.specs.Traces.{Answers}
 use Rattle.vx_node.specs.Asking.{Asking, Outcome, Gives, outcome}
 use Rattle.vx_node.proofs.SameAnswers.{same_outcome, same_asked}
 use Rattle.vx_compilation.specs.Readings.{told, ask_heads, ask_base, ask_bind, ask_clones}
-use Rattle.vx_compilation.specs.TreeAsking.{Course, AskInner, ask_named, ask_missing, ask_fault, is_exact, ask_variant, ask_called, ask_bound, ask_nothing, ask_resend, ask_needs, ask_needs_of_parts, ask_needs_of_fields, ask_needs_of_body, ask_needs_of_statement, ask_expression, ask_parts, ask_fields, ask_body, ask_statement, ask_statements, ask_inlined, ask_inner, ask_formal, ask_formals, ask_others, ask_infos, ask_source, ask_tree, TreesAreRead}
+use Rattle.vx_compilation.specs.TreeAsking.{Course, AskInner, ask_named, ask_missing, ask_fault, is_exact, ask_variant, ask_called, ask_bound}
+use Rattle.vx_compilation.specs.TreeAsking.{ask_nothing, ask_resend, ask_needs, ask_needs_of_parts, ask_needs_of_fields, ask_needs_of_body}
+use Rattle.vx_compilation.specs.TreeAsking.{ask_needs_of_statement, ask_expression, ask_parts, ask_fields, ask_body, ask_statement, ask_statements}
+use Rattle.vx_compilation.specs.TreeAsking.{ask_inlined, ask_inner, ask_formal, ask_formals, ask_others, ask_infos, ask_source, ask_tree}
+use Rattle.vx_compilation.specs.TreeAsking.{TreesAreRead}
 use mathlib.Core.Former.{this, list_count}
 use Rattle.vx_compilation.proofs.Variants.{general_for}
 

@@ -3,7 +3,8 @@
 use Rattle.vx_syntax.specs.Expressions.{Bytes}
 use Rattle.std.specs.Prelude.{◌≡◌, ℕ, List, [], ◌∷◌, Option, Some, None}
 use Rattle.vx_model.specs.declared.value.Value.{Value}
-use Rattle.vx_compilation.specs.Activations.{Symbols, World, Making, Makes, NoSlot, NoClass, Target, ToCode, ToPrimitive, ToGetter, ToSetter, ToError, ToNothing}
+use Rattle.vx_compilation.specs.Activations.{Symbols, World, Making, Makes, NoSlot, NoClass, Target, ToCode, ToPrimitive, ToGetter, ToSetter}
+use Rattle.vx_compilation.specs.Activations.{ToError, ToNothing}
 use Rattle.vx_compilation.specs.Machine as machine
 use Rattle.vx_compilation.specs.Machine.{Instruction, Block, Codes}
 

@@ -3,9 +3,11 @@ use Rattle.std.specs.Prelude.{ℕ, List, [], ◌∷◌, length, map, codes, Opti
 use Rattle.vx_compilation.specs.declared.tree.TreeBlock.{TreeBlock}
 use Rattle.vx_compilation.specs.declared.tree.Part as p
 use Rattle.vx_compilation.specs.declared.tree.Act as a
-use Rattle.vx_compilation.specs.Machine.{Instruction, PushInt, PushText, PushObject, Load, Store, NewCell, GetCell, SetCell, Close, Send, Enter, Perform, Get, Make, Pop, Leave, LeaveHome, Mark, Fail, Block, Codes}
+use Rattle.vx_compilation.specs.Machine.{Instruction, PushInt, PushText, PushObject, Load, Store, NewCell, GetCell, SetCell, Close, Send, Enter}
+use Rattle.vx_compilation.specs.Machine.{Perform, Get, Make, Pop, Leave, LeaveHome, Mark, Fail, Block, Codes}
 use Rattle.vx_compilation.specs.Machine as machine
-use Rattle.vx_compilation.specs.TreeMeaning.{by_name, Sends, Resends, Blocks, Statement, Does, Do, Return, Effect, Let, LetVar, Set, Mode, Stays, Leaves, mode_of, field_keys}
+use Rattle.vx_compilation.specs.TreeMeaning.{by_name, Sends, Resends, Blocks, Statement, Does, Do, Return, Effect, Let, LetVar, Set, Mode, Stays}
+use Rattle.vx_compilation.specs.TreeMeaning.{Leaves, mode_of, field_keys}
 
 abbrev pub Instructions : Type 0
 Instructions = List (Instruction by_name)

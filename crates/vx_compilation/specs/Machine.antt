@@ -9,7 +9,9 @@ use Rattle.vx_model.specs.declared.report.Report.{Report}
 use Rattle.vx_model.specs.declared.report.Report.TheVariants as r
 use Rattle.vx_model.specs.declared.primitives.Deed.{Deed}
 use Rattle.vx_model.specs.declared.primitives.Deed.TheVariants as deeds
-use Rattle.vx_compilation.specs.Activations.{Symbols, Slot, Plain, Cell, Closed, State, World, Making, Makes, NoSlot, NoClass, Target, ToCode, ToPrimitive, ToGetter, ToSetter, ToError, ToNothing, stored, opened, captured, with_cell, with_closure, with_content, with_objects, with_line, counted}
+use Rattle.vx_compilation.specs.Activations.{Symbols, Slot, Plain, Cell, Closed, State, World, Making, Makes, NoSlot, NoClass, Target, ToCode}
+use Rattle.vx_compilation.specs.Activations.{ToPrimitive, ToGetter, ToSetter, ToError, ToNothing, stored, opened, captured, with_cell, with_closure}
+use Rattle.vx_compilation.specs.Activations.{with_content, with_objects, with_line, counted}
 
 -- Instructions, each with the number of operands that it takes from the stack where its text does not tell it.
 pub data Instruction (y : Symbols) : Type 0 where

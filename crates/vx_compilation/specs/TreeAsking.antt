@@ -32,7 +32,11 @@ use Rattle.vx_node.specs.Asking.{Asking, gives, Gives, outcome, asked, SameAnswe
 use Rattle.vx_compilation.specs.Readings.{told, ask_there, ask_heads, ask_source_of, ask_base, ask_field, ask_inline, ask_bind, ask_clones}
 use Rattle.vx_compilation.specs.Infos.{cone_of}
 use Rattle.vx_compilation.specs.Resolved as resolved
-use Rattle.vx_compilation.specs.Resolved.{Seat, Names, Resolved, Parts, Fields, Stated, Statements, Inlined, Need, OfName, OfFormals, bound, seat_part, info_of, leaf, failing, is_plain, exactly, over, shape_of, acts_row, seats_row, seat_parts, primitive_info, variant_for, captures, closed_scope, closed, unless, more_parts, more_fields, more_statements, no_parts, no_fields, no_statements, let_of, let_var_of, set_of, do_of, back_of, seat_number, numbers, formal_scope}
+use Rattle.vx_compilation.specs.Resolved.{Seat, Names, Resolved, Parts, Fields, Stated, Statements, Inlined, Need, OfName, OfFormals, bound}
+use Rattle.vx_compilation.specs.Resolved.{seat_part, info_of, leaf, failing, is_plain, exactly, over, shape_of, acts_row, seats_row, seat_parts}
+use Rattle.vx_compilation.specs.Resolved.{primitive_info, variant_for, captures, closed_scope, closed, unless, more_parts, more_fields}
+use Rattle.vx_compilation.specs.Resolved.{more_statements, no_parts, no_fields, no_statements, let_of, let_var_of, set_of, do_of, back_of}
+use Rattle.vx_compilation.specs.Resolved.{seat_number, numbers, formal_scope}
 use mathlib.Core.Former.{this, list_count}
 
 -- ---- courses, each with what follows

@@ -18,7 +18,8 @@ use Rattle.vx_compilation.specs.declared.tree.TreeBlock.{TreeBlock}
 use Rattle.vx_compilation.specs.declared.tree.Part as p
 use Rattle.vx_compilation.specs.declared.tree.Act as a
 use Rattle.vx_model.specs.Meaning.{Stop, Back, Fails, Out, Stuck}
-use Rattle.vx_compilation.specs.Activations.{Symbols, Making, Makes, NoSlot, NoClass, Slot, Unset, Plain, Cell, Closed, Target, ToCode, ToPrimitive, ToGetter, ToSetter, ToError, ToNothing, stored, opened, captured}
+use Rattle.vx_compilation.specs.Activations.{Symbols, Making, Makes, NoSlot, NoClass, Slot, Unset, Plain, Cell, Closed, Target, ToCode, ToPrimitive}
+use Rattle.vx_compilation.specs.Activations.{ToGetter, ToSetter, ToError, ToNothing, stored, opened, captured}
 use Rattle.vx_compilation.specs.Activations as activations
 
 -- ---- trees run by names and keys

@@ -1,5 +1,6 @@
 -- Images are read as they are spelled.
-use Rattle.std.proofs.Common.{◌≡◌, ℕ, ◌<◌, Bool, true, false, cond, eqb, ◌&&◌, [], ◌∷◌, ◌++◌, length, Option, Result, Ok, Err, refl, sym, ap, subst, ◌∙◌, inl, inr, arith}
+use Rattle.std.proofs.Common.{◌≡◌, ℕ, ◌<◌, Bool, true, false, cond, eqb, ◌&&◌, [], ◌∷◌, ◌++◌, length, Option, Result, Ok, Err, refl, sym, ap, subst}
+use Rattle.std.proofs.Common.{◌∙◌, inl, inr, arith}
 use Rattle.std.specs.Prelude.{codes}
 use Rattle.std.specs.Str.{bytes_eq}
 use Rattle.std.proofs.lemmas.Bool.{eqb-true, eqb-false, ne_eqb, cases_Bool, cond-true, cond-false}
@@ -12,7 +13,8 @@ use Rattle.vx_format.specs.declared.image.Image.{Image}
 use Rattle.vx_format.specs.Numbers.{Bytes, is_number, every}
 use Rattle.vx_format.specs.Reading.{Cursor, Reading, give, bytes}
 use Rattle.vx_format.specs.declared.image.Roster.{Roster}
-use Rattle.vx_format.specs.Layout.{roster_of, is_optional, own, is_own, shape, is_shape, test, is_test, table, is_table, code, is_code, version_byte, parts, is_image, image_bytes}
+use Rattle.vx_format.specs.Layout.{roster_of, is_optional, own, is_own, shape, is_shape, test, is_test, table, is_table, code, is_code, version_byte}
+use Rattle.vx_format.specs.Layout.{parts, is_image, image_bytes}
 use Rattle.vx_format.specs.Format.{an_own, a_table, the_parts, a_magic, versioned, an_image, ended, loaded}
 use Rattle.vx_format.proofs.Spelled.{AreBytes, IsSpelled, Any, recast, retested, given}
 use Rattle.std.proofs.lemmas.Slice.Eq.{bytes_eq-Decides}

@@ -1,5 +1,6 @@
 -- Readings of bytes, numbers and lists.
-use Rattle.std.proofs.Common.{◌≡◌, ℕ, zero, suc, ◌+◌, ◌^◌, ◌<◌, ◌≤◌, Bool, true, false, cond, ltb, eqb, ◌&&◌, List, [], ◌∷◌, ◌++◌, length, take, drop, Result, Ok, Err, refl, sym, ap, subst, ◌∙◌, inl, inr, append_assoc, arith, length-append}
+use Rattle.std.proofs.Common.{◌≡◌, ℕ, zero, suc, ◌+◌, ◌^◌, ◌<◌, ◌≤◌, Bool, true, false, cond, ltb, eqb, ◌&&◌, List, [], ◌∷◌, ◌++◌, length, take}
+use Rattle.std.proofs.Common.{drop, Result, Ok, Err, refl, sym, ap, subst, ◌∙◌, inl, inr, append_assoc, arith, length-append}
 use Rattle.std.specs.Prelude.{nat_lt}
 use Rattle.std.proofs.lemmas.Bool.{ltb-true, ltb-false, lt-ltb, le-ltb, eqb-true, eq-eqb}
 use Rattle.std.proofs.lemmas.List.{take_at, drop_at, take-append-drop, length-take, append-nil}
@@ -7,7 +8,8 @@ use Rattle.vx_format.specs.declared.fault.FormatFault.{FormatFault}
 use Rattle.vx_format.specs.declared.fault.FormatFault.TheVariants.{Short}
 use Rattle.vx_format.specs.Numbers.{Bytes, number, number_of, is_number, each, every}
 use Rattle.vx_format.specs.Reading.{Cursor, Reading, passed, ◌>>=◌, give, here, check, bytes, a_number, valid, below, listed}
-use Rattle.vx_format.proofs.Spelled.{AreBytes, AreBytes-rest, AreBytes-front, IsSpelled, Took, Any, passed_ok, both_true, and_true, cut, ok_is, after, given, recast}
+use Rattle.vx_format.proofs.Spelled.{AreBytes, AreBytes-rest, AreBytes-front, IsSpelled, Took, Any, passed_ok, both_true, and_true, cut, ok_is}
+use Rattle.vx_format.proofs.Spelled.{after, given, recast}
 use Rattle.vx_format.proofs.Numbers.{length_number, number_back, number_again, number_below}
 
 -- ---- bytes

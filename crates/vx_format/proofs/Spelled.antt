@@ -1,5 +1,6 @@
 -- A reading and the bytes that it reads: what is read was spelled so, what is spelled so is read, and of a front of it the fault is that the bytes end.
-use Rattle.std.proofs.Common.{◌≡◌, ℕ, ◌+◌, ◌<◌, Bool, true, false, ◌&&◌, [], ◌∷◌, ◌++◌, length, Result, Ok, Err, refl, sym, ap, subst, ◌∙◌, ◌⊎◌, inl, inr, append_assoc, arith, length-append}
+use Rattle.std.proofs.Common.{◌≡◌, ℕ, ◌+◌, ◌<◌, Bool, true, false, ◌&&◌, [], ◌∷◌, ◌++◌, length, Result, Ok, Err, refl, sym, ap, subst, ◌∙◌, ◌⊎◌, inl}
+use Rattle.std.proofs.Common.{inr, append_assoc, arith, length-append}
 use Rattle.vx_format.specs.declared.fault.FormatFault.{FormatFault}
 use Rattle.vx_format.specs.declared.fault.FormatFault.TheVariants.{Short}
 use Rattle.vx_format.specs.Numbers.{Bytes}

@@ -1,5 +1,6 @@
 -- Tables are read as they are spelled.
-use Rattle.std.proofs.Common.{◌≡◌, ℕ, ◌+◌, ◌<◌, Bool, true, false, not, cond, eqb, ◌&&◌, List, [], ◌++◌, length, Option, Some, None, refl, sym, ap, subst, ◌∙◌, inl, inr, arith}
+use Rattle.std.proofs.Common.{◌≡◌, ℕ, ◌+◌, ◌<◌, Bool, true, false, not, cond, eqb, ◌&&◌, List, [], ◌++◌, length, Option, Some, None, refl, sym, ap}
+use Rattle.std.proofs.Common.{subst, ◌∙◌, inl, inr, arith}
 use Rattle.std.specs.Prelude.{nat_lt, nat_le, ◌==◌}
 use Rattle.std.proofs.lemmas.Bool.{lt-ltb, ltb-true, eqb-true, eqb-false, ne_eqb, eq-eqb, cases_Bool, cond-true, cond-false}
 use Rattle.vx_format.specs.declared.image.Version.{Version}
@@ -9,7 +10,9 @@ use Rattle.vx_format.specs.declared.image.Does.TheVariants as leads
 use Rattle.vx_format.specs.Numbers.{Bytes, number, is_number, every}
 use Rattle.vx_format.specs.Reading.{Reading, ◌>>=◌, give, check}
 use Rattle.vx_format.specs.declared.image.Roster.{Roster}
-use Rattle.vx_format.specs.Layout.{symbol, is_symbol, long, list, is_list, is_name, is_long_name, mask_width, most_rows, pair, is_pair, split, is_split, does, does_tag, does_parts, is_does, is_prim, row, is_row, class_mask, is_class_mask, position, is_position, table, is_table, starts}
+use Rattle.vx_format.specs.Layout.{symbol, is_symbol, long, list, is_list, is_name, is_long_name, mask_width, most_rows, pair, is_pair, split}
+use Rattle.vx_format.specs.Layout.{is_split, does, does_tag, does_parts, is_does, is_prim, row, is_row, class_mask, is_class_mask, position}
+use Rattle.vx_format.specs.Layout.{is_position, table, is_table, starts}
 use Rattle.vx_format.specs.Format.{a_symbol, a_long, a_list, a_pair, a_split, a_code_row, deeds, a_deed, a_row, a_class_mask, a_position, a_name, a_table}
 use Rattle.vx_format.proofs.Spelled.{IsSpelled, Any, recast, given_if, both_true, and_true}
 use Rattle.vx_format.proofs.Parts.{valid_is, below_is, number_is, list_is, count_is, and_true_end, text_end}

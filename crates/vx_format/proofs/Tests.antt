@@ -8,7 +8,8 @@ use Rattle.vx_format.specs.declared.image.Step.TheVariants as forms
 use Rattle.vx_format.specs.Numbers.{Bytes, number, is_number, integer, is_integer, each, every, follow}
 use Rattle.vx_format.specs.Reading.{◌>>=◌, give, here, check, a_number, until}
 use Rattle.vx_format.specs.declared.image.Roster.{Roster}
-use Rattle.vx_format.specs.Layout.{optional, is_optional, class_test, is_class_test, step, step_tag, step_parts, is_step, depth_after, values_left, form, is_form, test, is_test}
+use Rattle.vx_format.specs.Layout.{optional, is_optional, class_test, is_class_test, step, step_tag, step_parts, is_step, depth_after, values_left}
+use Rattle.vx_format.specs.Layout.{form, is_form, test, is_test}
 use Rattle.vx_format.specs.Format.{a_class_test, an_optional, a_compare, joining, steps, a_step, a_form, a_test}
 use Rattle.vx_format.proofs.Spelled.{IsSpelled, Any, recast, both_true, and_true}
 use Rattle.vx_format.proofs.Numbers.{length_number}

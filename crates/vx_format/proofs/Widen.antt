@@ -11,7 +11,8 @@ use Rattle.vx_format.specs.declared.image.Roster.{Roster}
 use Rattle.vx_format.specs.declared.image.Image.{Image}
 use Rattle.std.specs.Prelude.{◌==◌}
 use Rattle.vx_format.specs.Numbers.{is_number, every}
-use Rattle.vx_format.specs.Layout.{roster_of, is_long_name, starts, is_own, is_optional, is_shape, is_test, is_list, is_mask, is_row, is_class_mask, is_position, is_table, is_image}
+use Rattle.vx_format.specs.Layout.{roster_of, is_long_name, starts, is_own, is_optional, is_shape, is_test, is_list, is_mask, is_row, is_class_mask}
+use Rattle.vx_format.specs.Layout.{is_position, is_table, is_image}
 use Rattle.vx_format.proofs.Spelled.{both_true, and_true}
 
 -- a test that follows from another, in a conjunction

@@ -1,5 +1,6 @@
 -- Reading an image.
-use Rattle.std.specs.Prelude.{ℕ, zero, suc, ◌+◌, ◌-◌, ◌*◌, ℤ, nat_eq, ◌||◌, List, [], ◌∷◌, length, Option, Some, None, Result, Ok, Err, nat_lt, nat_le, ◌==◌, codes, if◌then◌else◌}
+use Rattle.std.specs.Prelude.{ℕ, zero, suc, ◌+◌, ◌-◌, ◌*◌, ℤ, nat_eq, ◌||◌, List, [], ◌∷◌, length, Option, Some, None, Result, Ok, Err, nat_lt}
+use Rattle.std.specs.Prelude.{nat_le, ◌==◌, codes, if◌then◌else◌}
 use Rattle.std.specs.Int.{w128, cast_signed}
 use Rattle.std.specs.Str.{bytes_eq}
 use Rattle.vx_format.specs.declared.fault.FormatFault.{FormatFault}

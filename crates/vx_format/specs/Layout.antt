@@ -2,7 +2,8 @@
 use Rattle.std.specs.Char.{is_ascii_alphabetic, is_ascii_digit}
 use Rattle.std.specs.List.{list_all, list_any}
 use Rattle.std.specs.Str.{bytes_eq}
-use Rattle.std.specs.Prelude.{◌≡◌, ℕ, ◌+◌, ◌-◌, Bool, true, false, ◌&&◌, ◌||◌, not, List, [], ◌∷◌, ◌++◌, length, Option, Some, None, nat_lt, nat_le, ◌==◌, codes}
+use Rattle.std.specs.Prelude.{◌≡◌, ℕ, ◌+◌, ◌-◌, Bool, true, false, ◌&&◌, ◌||◌, not, List, [], ◌∷◌, ◌++◌, length, Option, Some, None, nat_lt, nat_le}
+use Rattle.std.specs.Prelude.{◌==◌, codes}
 use Rattle.vx_format.specs.declared.image.Roster.{Roster}
 use Rattle.vx_format.specs.declared.image.Version.{Version}
 use Rattle.vx_format.specs.declared.image.Version.TheVariants.{One, Two}

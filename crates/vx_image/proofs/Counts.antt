@@ -14,7 +14,8 @@ use Rattle.vx_format.specs.declared.image.Table.{Table}
 use Rattle.vx_format.specs.declared.image.Block.{Block}
 use Rattle.vx_format.specs.declared.image.Image.{Image}
 use Rattle.vx_format.specs.Numbers.{is_number, every}
-use Rattle.vx_format.specs.Layout.{roster_of, is_long_name, starts, most_rows, is_own, is_optional, is_shape, is_test, is_table, is_code, is_row, is_does, is_position, is_mask, is_symbol, is_split, is_image}
+use Rattle.vx_format.specs.Layout.{roster_of, is_long_name, starts, most_rows, is_own, is_optional, is_shape, is_test, is_table, is_code, is_row}
+use Rattle.vx_format.specs.Layout.{is_does, is_position, is_mask, is_symbol, is_split, is_image}
 use Rattle.vx_image.specs.Views.{pairs_of}
 use Rattle.vx_image.specs.Parts.{within, shape_at, test_at, table_at, row_at, position_at, code_at}
 

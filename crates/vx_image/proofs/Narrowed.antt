@@ -12,7 +12,8 @@ use Rattle.vx_format.specs.declared.image.Table.{Table}
 use Rattle.vx_format.specs.declared.image.Roster.{Roster}
 use Rattle.vx_format.specs.declared.image.Image.{Image}
 use Rattle.vx_format.specs.Numbers.{is_number, every}
-use Rattle.vx_format.specs.Layout.{roster_of, is_long_name, starts, most_rows, is_own, is_optional, is_shape, is_test, is_symbol, is_does, is_list, is_mask, is_row, is_class_mask, is_position, is_table, is_image}
+use Rattle.vx_format.specs.Layout.{roster_of, is_long_name, starts, most_rows, is_own, is_optional, is_shape, is_test, is_symbol, is_does, is_list}
+use Rattle.vx_format.specs.Layout.{is_mask, is_row, is_class_mask, is_position, is_table, is_image}
 use Rattle.vx_image.specs.Narrow.{is_narrow, is_narrow_mask, is_narrow_position, too_wide}
 
 and_so : (a b : Bool) → a ≡ true → b ≡ true → (a && b) ≡ true

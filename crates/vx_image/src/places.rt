@@ -1,6 +1,7 @@
 //! Parts of an image by their places, counted from 0, which must be in range.
 ghost use Rattle.std.specs.Prelude.{◌≡◌, Some};
-ghost use Rattle.vx_image.specs.Parts.{IsThere, block_at, class_mask_at, code_at, pair_at, position_at, row_at, shape_at, slot_at, table_at, test_at, test_class_at, test_field_at, test_mask_at};
+ghost use Rattle.vx_image.specs.Parts.{IsThere, block_at, class_mask_at, code_at, pair_at, position_at, row_at, shape_at, slot_at, table_at, test_at};
+ghost use Rattle.vx_image.specs.Parts.{test_class_at, test_field_at, test_mask_at};
 
 use sqlite_items::Items;
 use vx_format::{Block, ClassMask, ClassTest, Does, Image, Position, Row, Slot, Table, Test};

@@ -9,7 +9,8 @@ ghost use Rattle.vx_format.specs.declared.image.Row as rows;
 ghost use Rattle.vx_format.specs.declared.image.Position.{Position};
 ghost use Rattle.vx_format.specs.declared.image.Table.{Table};
 ghost use Rattle.vx_format.specs.declared.image.Block.{Block};
-ghost use Rattle.vx_image.specs.Parts.{IsThere, block_at, class_mask_at, code_at, image_of, pair_at, position_at, row_at, shape_at, slot_at, table_at, test_at, test_class_at, test_field_at, test_mask_at};
+ghost use Rattle.vx_image.specs.Parts.{IsThere, block_at, class_mask_at, code_at, image_of, pair_at, position_at, row_at, shape_at, slot_at};
+ghost use Rattle.vx_image.specs.Parts.{table_at, test_at, test_class_at, test_field_at, test_mask_at};
 ghost use Rattle.vx_image.specs.Views.{head_of, initial_of, pairs_of, row_of, six};
 
 use crate::loaded::Loaded;

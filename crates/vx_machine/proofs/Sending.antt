@@ -1,5 +1,6 @@
 -- What sends come to when their rows are found.
-use Rattle.std.proofs.Common.{◌≡◌, ◌∙◌, ◌<◌, ◌≤◌, ap, arith, subst, sym, refl, ℕ, Bool, true, false, if◌then◌else◌, List, [], ◌∷◌, length, map, take, reverse, Option, Some, None, Result, Ok, Err}
+use Rattle.std.proofs.Common.{◌≡◌, ◌∙◌, ◌<◌, ◌≤◌, ap, arith, subst, sym, refl, ℕ, Bool, true, false, if◌then◌else◌, List, [], ◌∷◌, length, map, take}
+use Rattle.std.proofs.Common.{reverse, Option, Some, None, Result, Ok, Err}
 use Rattle.std.specs.Prelude.{IfOk, nat_lt, slice_get}
 use Rattle.std.proofs.lemmas.Bool.{le-ltb, lt-ltb}
 use Rattle.std.specs.declared.alloc.AllocError.{AllocError}

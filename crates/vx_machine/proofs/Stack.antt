@@ -1,6 +1,8 @@
 -- What a change of a local makes of the parts of the stacks.
-use Rattle.std.proofs.Common.{◌≡◌, ℕ, ◌+◌, ◌-◌, ◌≤◌, ◌<◌, List, [], ap, ◌∷◌, ◌++◌, length, drop, take, reverse, set, refl, arith, length-drop, sym, ◌∙◌, append_assoc}
-use Rattle.std.proofs.lemmas.List.{drop-set-add, take-set-le, drop-take, length-reverse, reverse-reverse, drop-drop, take-take, take_all, drop-append-le, take-append-le, length-take-le}
+use Rattle.std.proofs.Common.{◌≡◌, ℕ, ◌+◌, ◌-◌, ◌≤◌, ◌<◌, List, [], ap, ◌∷◌, ◌++◌, length, drop, take, reverse, set, refl, arith, length-drop, sym}
+use Rattle.std.proofs.Common.{◌∙◌, append_assoc}
+use Rattle.std.proofs.lemmas.List.{drop-set-add, take-set-le, drop-take, length-reverse, reverse-reverse, drop-drop, take-take, take_all}
+use Rattle.std.proofs.lemmas.List.{drop-append-le, take-append-le, length-take-le}
 use Rattle.std.proofs.Math.Seq.{drop-append_seam, take-append_seam}
 use Rattle.std.proofs.Math.ListN.{drop_of_length-le}
 use Rattle.vx_lists.proofs.Rests.{reverse_take}

@@ -1,5 +1,6 @@
 -- Activations that share a stack of operands and one of locals.
-use Rattle.std.specs.Prelude.{◌≡◌, ℕ, ◌+◌, ◌-◌, ◌≤◌, List, [], ◌∷◌, ◌++◌, length, take, drop, reverse, replicate, map, slice_get, slice_set, Option, Some, None, Bool, false, ◌==◌, if◌then◌else◌}
+use Rattle.std.specs.Prelude.{◌≡◌, ℕ, ◌+◌, ◌-◌, ◌≤◌, List, [], ◌∷◌, ◌++◌, length, take, drop, reverse, replicate, map, slice_get, slice_set, Option}
+use Rattle.std.specs.Prelude.{Some, None, Bool, false, ◌==◌, if◌then◌else◌}
 use Rattle.vx_format.specs.declared.image.Instr.{Instr}
 use Rattle.vx_format.specs.declared.image.Instr.TheVariants as n
 use Rattle.vx_format.specs.declared.image.Block.{Block}

@@ -1,5 +1,6 @@
 -- What the machine's words, stacks and lists mean.
-use Rattle.std.specs.Prelude.{◌≡◌, ℕ, ◌+◌, ◌≤◌, Bool, true, false, List, [], ◌∷◌, ◌++◌, length, map, get_or, slice_get, take, drop, reverse, Option, Some, None, Result, IfOk}
+use Rattle.std.specs.Prelude.{◌≡◌, ℕ, ◌+◌, ◌≤◌, Bool, true, false, List, [], ◌∷◌, ◌++◌, length, map, get_or, slice_get, take, drop, reverse, Option}
+use Rattle.std.specs.Prelude.{Some, None, Result, IfOk}
 use Rattle.std.specs.declared.alloc.AllocError.{AllocError}
 use Rattle.vx_syntax.specs.Expressions.{Bytes}
 use Rattle.vx_model.specs.declared.value.Value.{Value}
@@ -11,7 +12,8 @@ use Rattle.vx_format.specs.declared.image.Position.{Position}
 use Rattle.vx_format.specs.declared.image.Image.{Image}
 use Rattle.vx_names.specs.Name.{IsName}
 use Rattle.vx_compilation.specs.Activations.{Slot, Unset, Plain, Cell, Closed, State, Target}
-use Rattle.vx_compilation.specs.Machine.{Frame, Machine, Stepped, On, Over, Stops, Finds, Lacks, act, reaches, waiting, going, delivered, turns, evaluates, repeats, gets, sets}
+use Rattle.vx_compilation.specs.Machine.{Frame, Machine, Stepped, On, Over, Stops, Finds, Lacks, act, reaches, waiting, going, delivered, turns}
+use Rattle.vx_compilation.specs.Machine.{evaluates, repeats, gets, sets}
 use Rattle.vx_compilation.specs.Machine as machine
 use Rattle.vx_places.specs.Dispatch.{Placed}
 use Rattle.vx_places.specs.ImageMachine.{by_place, block_at, instruction, codes_of, world}

@@ -1,5 +1,6 @@
 //! The activations, with a stack of operands and one of locals.
-ghost use Rattle.std.specs.Prelude.{◌≡◌, ◌<◌, ◌≤◌, ◌+◌, [], ◌∷◌, Some, None, true, false, OnOk, OnErr, IfOk, MatchOption, slice_get, length, reverse, take, ◌++◌};
+ghost use Rattle.std.specs.Prelude.{◌≡◌, ◌<◌, ◌≤◌, ◌+◌, [], ◌∷◌, Some, None, true, false, OnOk, OnErr, IfOk, MatchOption, slice_get, length, reverse};
+ghost use Rattle.std.specs.Prelude.{take, ◌++◌};
 ghost use Rattle.std.specs.Option.{option_copied};
 ghost use Rattle.vx_machine.specs.Cuts.{Extends, AreNamed, IsNamed, opened, pushed, with_local, with_left, entered, restarted, is_home, below_home};
 

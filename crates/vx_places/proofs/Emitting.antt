@@ -7,7 +7,8 @@ use Rattle.vx_model.specs.declared.report.RunError.TheVariants as e
 use Rattle.vx_format.specs.declared.image.Block.{Block}
 use Rattle.vx_format.specs.declared.image.Image.{Image}
 use Rattle.vx_compilation.specs.TreeMeaning.{by_name, CodeKey, Sends, Resends}
-use Rattle.vx_compilation.specs.Machine.{Instruction, PushInt, PushText, PushObject, Load, Store, NewCell, GetCell, SetCell, Close, Send, Enter, Perform, Get, Set, Make, Pop, Leave, LeaveHome, Mark, Fail}
+use Rattle.vx_compilation.specs.Machine.{Instruction, PushInt, PushText, PushObject, Load, Store, NewCell, GetCell, SetCell, Close, Send, Enter}
+use Rattle.vx_compilation.specs.Machine.{Perform, Get, Set, Make, Pop, Leave, LeaveHome, Mark, Fail}
 use Rattle.vx_compilation.specs.Machine as machine
 use Rattle.vx_compilation.specs.Code.{codes_of}
 use Rattle.vx_compilation.specs.Compiled.{blocks}
@@ -26,7 +27,8 @@ module _ (r : Places) (g : Numbers) (image : Image) where
   -- the count is the same
   send_alike : (selector : _) (t one other : ℕ) → At r.selectors selector t → one ≡ other →
       InstructionAlike (matching r) (Send (Sends selector) other) (Send (To t) one)
-  send_alike selector t one other at e = subst (λ count. InstructionAlike (matching r) (Send (Sends selector) count) (Send (To t) one)) e (alike.send (sends at))
+  send_alike selector t one other at e = subst (λ count. InstructionAlike (matching r) (Send (Sends selector) count) (Send (To t) one)) e
+      (alike.send (sends at))
 
   fail_alike : (error : RunError) → IsFailing r g image error → InstructionAlike (matching r) (Fail error) (instruction image (failing error))
   fail_alike (e.NoField name) h = alike.fail

@@ -65,17 +65,20 @@ home = refl
 
 -- eval({ 5 }), and loop({ ^ 1 })
 evaluated : report_of
-    (image (Some 0) (deed.Code 0 None) [] ((block 0 0 (instr.Closure 1 [] ∷ instr.Prim 12 ∷ instr.Ret ∷ []) ∷ block 0 0 (instr.Int (pos 5) ∷ instr.Ret ∷ []) ∷ []) ∷ [])) 6 ≡
+    (image (Some 0) (deed.Code 0 None) [] ((block 0 0 (instr.Closure 1 [] ∷ instr.Prim 12 ∷ instr.Ret ∷ [])
+    ∷ block 0 0 (instr.Int (pos 5) ∷ instr.Ret ∷ []) ∷ []) ∷ [])) 6 ≡
     r.End []
 unfolding report_of
 evaluated = refl
 
-left : report_of (image (Some 0) (deed.Code 0 None) [] ((block 0 0 (instr.Closure 1 [] ∷ instr.Prim 17 ∷ instr.Ret ∷ []) ∷ block 0 0 (instr.Int (pos 1) ∷ instr.Home ∷ []) ∷ []) ∷
+left : report_of (image (Some 0) (deed.Code 0 None) [] ((block 0 0 (instr.Closure 1 [] ∷ instr.Prim 17 ∷ instr.Ret ∷ [])
+    ∷ block 0 0 (instr.Int (pos 1) ∷ instr.Home ∷ []) ∷ []) ∷
     [])) 5 ≡ r.End []
 unfolding report_of
 left = refl
 
-turning : report_of (image (Some 0) (deed.Code 0 None) [] ((block 0 0 (instr.Closure 1 [] ∷ instr.Prim 17 ∷ instr.Ret ∷ []) ∷ block 0 0 (instr.Int (pos 1) ∷ instr.Ret ∷ []) ∷
+turning : report_of (image (Some 0) (deed.Code 0 None) [] ((block 0 0 (instr.Closure 1 [] ∷ instr.Prim 17 ∷ instr.Ret ∷ [])
+    ∷ block 0 0 (instr.Int (pos 1) ∷ instr.Ret ∷ []) ∷
     []) ∷ [])) 40 ≡ r.Unfinished []
 unfolding report_of
 turning = refl

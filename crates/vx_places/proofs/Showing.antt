@@ -1,5 +1,6 @@
 -- The image of a program means the program.
-use Rattle.std.proofs.Common.{◌≡◌, inl, inr, ℕ, zero, suc, ◌+◌, ◌<◌, ◌&&◌, nat_lt, true, if◌then◌else◌, List, [], ◌∷◌, length, map, codes, Option, Some, None, slice_get, refl, sym, ap, ◌∙◌, subst, arith}
+use Rattle.std.proofs.Common.{◌≡◌, inl, inr, ℕ, zero, suc, ◌+◌, ◌<◌, ◌&&◌, nat_lt, true, if◌then◌else◌, List, [], ◌∷◌, length, map, codes, Option}
+use Rattle.std.proofs.Common.{Some, None, slice_get, refl, sym, ap, ◌∙◌, subst, arith}
 use Rattle.std.specs.Prelude.{filter}
 use Rattle.std.specs.List.{find}
 use Rattle.std.proofs.lemmas.Bool.{and_parts, lt-ltb}
@@ -78,7 +79,8 @@ picked_within beats masks_ below row h = let l = from_within 0 (length beats) ro
     by [] h = absurd (let no : ⊥ = cc in no)
     by (one ∷ rows) h = so (find (masks.covers beats (one ∷ rows)) (one ∷ rows)) refl h
       where
-        so : (o : Option ℕ) → find (masks.covers beats (one ∷ rows)) (one ∷ rows) ≡ o → elim o [ Some best ↦ chosen.Row best | None ↦ chosen.Many ] ≡ chosen.Row row →
+        so : (o : Option ℕ) → find (masks.covers beats (one ∷ rows)) (one ∷ rows) ≡ o → elim o [ Some best ↦ chosen.Row best | None ↦ chosen.Many ]
+            ≡ chosen.Row row →
             IsIn row (one ∷ rows)
         so (Some best) f h = let same : best ≡ row = cc in subst (λ z. IsIn z (one ∷ rows)) same
             (found_is (masks.covers beats (one ∷ rows)) (one ∷ rows) best f).0
@@ -109,7 +111,8 @@ module _ (r : Places) (g : Numbers) (program : List Decl) (well : IsProgram prog
 
   row_target : (table : Table) (key : MethodKey) (objects : List Thing) (objects' : List Placed) (values : List Value) → ThingsAlike r objects objects' →
       length values ≡ length key.specialisers → (kd : Kind) (o : Option (ℕ × List Bytes)) (does : Does) → (asked program).clones key ≡ o →
-      RowAlike r table key kd o does → TargetAlike (matching r) (compiled.target_by program objects key values kd) (place.goes_to image objects' table values does)
+      RowAlike r table key kd o does
+      → TargetAlike (matching r) (compiled.target_by program objects key values kd) (place.goes_to image objects' table values does)
   row_target table key objects objects' values h count kd o does same (tables.source {b = b} at) =
       subst (λ z. TargetAlike (matching r) (ToCode (record { method = key; variant = variant_by objects values z })) (ToCode b)) (sym same) (alike.code at)
   row_target table key objects objects' values h count kd o does same (tables.split {b = b} {classes = classes} {own = split} less ats) =

@@ -62,7 +62,12 @@ image = record {
   shapes = map (λ x. []) names;
   tests = [];
   tables = record { name = codes "main"; arity = 0; rows = record { does = deed.Code 0 None; beats = 1 } ∷ []; positions = [] } ∷ [];
-  codes = (record { locals = 0; captures = 0; formals = 0; code = instr.Int (pos 1) ∷ instr.Int (pos 2) ∷ instr.Prim 0 ∷ instr.Prim 10 ∷ instr.Ret ∷ [] } ∷ []) ∷ [];
+  codes = (record {
+    locals = 0;
+    captures = 0;
+    formals = 0;
+    code = instr.Int (pos 1) ∷ instr.Int (pos 2) ∷ instr.Prim 0 ∷ instr.Prim 10 ∷ instr.Ret ∷ [];
+  } ∷ []) ∷ [];
 }
 
 image_runs : report_of image 6 ≡ r.End (line 3 ∷ [])

@@ -77,7 +77,8 @@ unlisted : holds things (v.Object 0) 4 (test (under_five ∷ [])) ≡ false
 unlisted = refl
 
 -- the first entry of a class counts
-first_listed : holds things (v.Object 0) 5 (record { names = 1; classes = record { object = 5; fields = None ∷ [] } ∷ listed 5 7 ∷ []; steps = under_five ∷ [] }) ≡ false
+first_listed : holds things (v.Object 0) 5
+    (record { names = 1; classes = record { object = 5; fields = None ∷ [] } ∷ listed 5 7 ∷ []; steps = under_five ∷ [] }) ≡ false
 first_listed = refl
 
 -- a tested name that means no field of the class compares with no number

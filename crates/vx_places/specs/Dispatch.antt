@@ -1,5 +1,6 @@
 -- Objects by places, and which row of a table a message takes.
-use Rattle.std.specs.Prelude.{ℕ, zero, suc, ◌==◌, ℤ, int_lt, int_le, Bool, false, not, ◌&&◌, ◌||◌, List, [], ◌∷◌, map, Option, Some, None, slice_get, bit_or, if◌then◌else◌}
+use Rattle.std.specs.Prelude.{ℕ, zero, suc, ◌==◌, ℤ, int_lt, int_le, Bool, false, not, ◌&&◌, ◌||◌, List, [], ◌∷◌, map, Option, Some, None, slice_get}
+use Rattle.std.specs.Prelude.{bit_or, if◌then◌else◌}
 use Rattle.std.specs.Ordering.{int_eq}
 use Rattle.vx_tables.specs.declared.picked.Picked.{Picked}
 use Rattle.vx_tables.specs.Masks.{picked}

@@ -11,7 +11,8 @@ use Rattle.vx_format.specs.declared.image.Instr.TheVariants as instr
 use Rattle.vx_format.specs.declared.image.Block.{Block}
 use Rattle.vx_format.specs.declared.image.Image.{Image}
 use Rattle.vx_compilation.specs.TreeMeaning.{by_name, CodeKey, Sends, Resends}
-use Rattle.vx_compilation.specs.Machine.{Instruction, PushInt, PushText, PushObject, Load, Store, NewCell, GetCell, SetCell, Close, Send, Enter, Perform, Get, Set, Make, Pop, Leave, LeaveHome, Mark, Fail}
+use Rattle.vx_compilation.specs.Machine.{Instruction, PushInt, PushText, PushObject, Load, Store, NewCell, GetCell, SetCell, Close, Send, Enter}
+use Rattle.vx_compilation.specs.Machine.{Perform, Get, Set, Make, Pop, Leave, LeaveHome, Mark, Fail}
 use Rattle.vx_compilation.specs.Machine as machine
 use Rattle.vx_compilation.specs.Code.{codes_of}
 use Rattle.vx_compilation.specs.Compiled.{blocks}

@@ -1,5 +1,6 @@
 -- The machine over an image: names are places, objects are kept by the places of classes and fields.
-use Rattle.std.specs.Prelude.{ℕ, suc, ◌==◌, ◌&&◌, Bool, true, false, List, [], ◌∷◌, ◌++◌, length, map, drop, take, get_or, codes, Option, Some, None, is_some, slice_get, slice_set, nat_lt, if◌then◌else◌}
+use Rattle.std.specs.Prelude.{ℕ, suc, ◌==◌, ◌&&◌, Bool, true, false, List, [], ◌∷◌, ◌++◌, length, map, drop, take, get_or, codes, Option, Some, None}
+use Rattle.std.specs.Prelude.{is_some, slice_get, slice_set, nat_lt, if◌then◌else◌}
 use Rattle.std.specs.List.{list_all}
 use Rattle.std.specs.Str.{bytes_eq}
 use Rattle.vx_names.specs.Bytes.{is_letter}
@@ -25,7 +26,8 @@ use Rattle.vx_format.specs.declared.image.Image.{Image}
 use Rattle.vx_model.specs.Primitives.{counts, deed_at}
 use Rattle.vx_compilation.specs.Activations.{Symbols, Making, Makes, NoSlot, NoClass, Target, ToCode, ToPrimitive, ToGetter, ToSetter, ToError, ToNothing}
 use Rattle.vx_compilation.specs.Activations as activations
-use Rattle.vx_compilation.specs.Machine.{Instruction, PushInt, PushText, PushObject, Load, Store, NewCell, GetCell, SetCell, Close, Send, Enter, Perform, Get, Set, Make, Pop, Leave, LeaveHome, Mark, Fail, Codes, run_report}
+use Rattle.vx_compilation.specs.Machine.{Instruction, PushInt, PushText, PushObject, Load, Store, NewCell, GetCell, SetCell, Close, Send, Enter}
+use Rattle.vx_compilation.specs.Machine.{Perform, Get, Set, Make, Pop, Leave, LeaveHome, Mark, Fail, Codes, run_report}
 use Rattle.vx_compilation.specs.Machine as machine
 use Rattle.vx_places.specs.Dispatch.{Placed, class_of, slot_at, slot_of, dispatched, clone_for}
 
@@ -110,7 +112,10 @@ goes_to image objects table values (deed.Get field) = ToGetter field table.name
 goes_to image objects table values (deed.Set field) = ToSetter field (set_name table.name)
 
 abbrev pub target : Image → List Placed → Table → List Value → Picked → Target by_place
-target image objects table values (chosen.Row row) = elim (slice_get table.rows row) [ Some own ↦ goes_to image objects table values own.does | None ↦ ToNothing ]
+target image objects table values (chosen.Row row) = elim (slice_get table.rows row) [
+  | Some own ↦ goes_to image objects table values own.does
+  | None ↦ ToNothing
+]
 target image objects table values chosen.None = ToError (e.NotUnderstood (selector_of table))
 target image objects table values chosen.Many = ToError (e.Ambiguous (selector_of table))
 

@@ -13,4 +13,5 @@ pub returns-else-count-eq128-clause-below : goal.returns-else-count-eq128-clause
 returns-else-count-eq128-clause-below c = λ i lt. let few : c.args.count < 128 = omega arith in rw (one_shl c.args.count 128 few) (has_first c.args.count i lt)
 
 pub returns-else-count-eq128-clause-above : goal.returns-else-count-eq128-clause-above
-returns-else-count-eq128-clause-above c = λ i le. let few : c.args.count < 128 = omega arith in rw (one_shl c.args.count 128 few) (has_not_first c.args.count i le)
+returns-else-count-eq128-clause-above c = λ i le. let few : c.args.count < 128 = omega arith
+    in rw (one_shl c.args.count 128 few) (has_not_first c.args.count i le)
