@@ -104,11 +104,8 @@ pub masks_all : (image : Image) (texts : Texts) (objects : List Object) (words :
 masks_all image texts objects words positions i found le =
     rw (drop_all i words (omega arith), drop_all i positions (omega arith)) (append-nil found)
 
-pub beats_there : (image : Image) (t : ℕ) (table : Table) (beats : List ℕ) (kept : List (List ℕ)) → kept ≡ beats_of image →
-    slice_get image.tables t ≡ Some table
-    → slice_get kept t ≡ Some beats → beats ≡ map (λ row. row.beats) table.rows
-beats_there image t table beats kept is there found =
+pub beats_kept : (image : Image) (t : ℕ) (table : Table) (kept : List (List ℕ)) → kept ≡ beats_of image → slice_get image.tables t ≡ Some table
+    → slice_get kept t ≡ Some (map (λ row. row.beats) table.rows)
+beats_kept image t table kept is there =
     let own : Table → List ℕ = λ table'. map (λ row. row.beats) table'.rows in
-    let same : Some beats ≡ Some (own table) =
-    sym found ∙ ap (λ (all : List (List ℕ)). slice_get all t) is ∙ slice_get-map own image.tables t ∙ ap (option_map own) there in
-    let r : beats ≡ own table = cc in r
+    ap (λ (all : List (List ℕ)). slice_get all t) is ∙ slice_get-map own image.tables t ∙ ap (option_map own) there

@@ -84,9 +84,7 @@ impl<'a> Ready<'a> {
         masks(
             self.image, objects, words, positions, self.rise, truths, found,
         )?;
-        match at(self.beats.as_slice(), t as usize) {
-            None => Err(AllocError),
-            Some(beats) => Ok(pick(beats.as_slice(), found.as_slice(), below)),
-        }
+        let beats = self.beats.as_slice();
+        Ok(pick(beats[t as usize].as_slice(), found.as_slice(), below))
     }
 }
