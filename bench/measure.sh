@@ -8,12 +8,17 @@ program=${PROGRAM:-$top/crates/vortex_batch/out/vortex_batch}
 work=$(mktemp -d)
 trap 'rm -rf "$work"' EXIT
 
-# The least milliseconds of three runs of "$work/script"; its replies stay in "$work/replies".
+# The program answers "$work/script"; its replies stay in "$work/replies".
+answer() {
+    "$program" <"$work/script" >"$work/replies"
+}
+
+# The least milliseconds of three runs of a command, or of three answers.
 least() {
     best=
     for _ in 1 2 3; do
         begun=$(date +%s%N)
-        "$program" <"$work/script" >"$work/replies"
+        "${@:-answer}"
         spent=$(( ($(date +%s%N) - begun) / 1000000 ))
         if [ -z "$best" ] || [ "$spent" -lt "$best" ]; then best=$spent; fi
     done

@@ -11,4 +11,5 @@ mod text;
 mod top;
 
 pub use pieces::{INPUT_BYTES, PIECE_BYTES};
+pub use report::report_text;
 pub use top::{Status, batch_top};

@@ -81,12 +81,12 @@ not_held objects number field object at none =
 
 -- ---- slots mean slots
 
-slot_mapped : (texts : List (List ℕ)) (field : ℕ) (slots : List (ℕ × Word))
+pub slot_mapped : (texts : List (List ℕ)) (field : ℕ) (slots : List (ℕ × Word))
     → slot_at field (map (λ slot. (slot.0, value_of texts slot.1)) slots) ≡ option_map (value_of texts) (word_at field slots)
 slot_mapped texts field [] = refl
 slot_mapped texts field (slot ∷ slots) = elim (cases_Bool (eqb slot.0 field)) [ inl is ↦ rw is refl | inr is ↦ rw is (slot_mapped texts field slots) ]
 
-put_mapped : (texts : List (List ℕ)) (field : ℕ) (word : Word) (slots : List (ℕ × Word))
+pub put_mapped : (texts : List (List ℕ)) (field : ℕ) (word : Word) (slots : List (ℕ × Word))
     → put_slot field (value_of texts word) (map (λ slot. (slot.0, value_of texts slot.1)) slots)
     ≡ map (λ slot. (slot.0, value_of texts slot.1)) (put_word field word slots)
 put_mapped texts field word [] = refl

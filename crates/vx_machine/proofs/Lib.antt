@@ -9,3 +9,7 @@ pub mod Testing
 pub mod Rising
 pub mod Views
 pub mod Sending
+pub mod Makes
+pub mod Fine
+pub mod Beginning
+pub mod Running

@@ -10,7 +10,7 @@ use Rattle.vx_format.specs.declared.image.Block.{Block}
 use Rattle.vx_machine.specs.declared.word.Word.{Word}
 use Rattle.vx_machine.specs.declared.word.Local.{Local}
 use Rattle.vx_machine.specs.declared.word.Kept.{Kept}
-use Rattle.vx_machine.specs.Cuts.{Extends, Lie, stacked, with_local, opened, entered}
+use Rattle.vx_machine.specs.Cuts.{Extends, Lie, stacked, forgotten, with_local, opened, entered}
 
 pub local_there : (k : Kept) (below : List Kept) (locals : List Local) (operands : List Word) (x : ℕ) (held : Local) → x < length locals - k.base
     → (x < length (drop k.base locals)) × (stacked k below (set locals (k.base + x) held) operands ≡ with_local x held (stacked k below locals operands))
@@ -33,6 +33,17 @@ left_waiting operands floor count under low le =
     let all : length operands - floor - rest ≡ count + under = omega arith in
     ap (λ (n : ℕ). reverse (drop floor (take n operands))) upto ∙ ap reverse (drop-take floor rest operands) ∙ reverse_take rest (drop floor operands)
     ∙ ap (λ (n : ℕ). drop (n - rest) (reverse (drop floor operands))) (length-drop floor operands) ∙ ap (λ (n : ℕ). drop n (reverse (drop floor operands))) all
+
+-- so many operands go from the top
+pub forgets : (k : Kept) (below : List Kept) (locals : List Local) (operands : List Word) (count : ℕ) → k.floor ≤ length operands
+    → count ≤ length operands - k.floor
+    → stacked k below locals (take (length operands - count) operands) ≡ forgotten count (stacked k below locals operands)
+forgets k below locals operands count low le =
+    let none : count + 0 ≡ count = omega arith in
+    let same : length operands - count ≡ length operands - count - 0 = omega arith in
+    let left : reverse (drop k.floor (take (length operands - count) operands)) ≡ drop count (reverse (drop k.floor operands)) =
+    ap (λ (n : ℕ). reverse (drop k.floor (take n operands))) same ∙ left_waiting operands k.floor count 0 low (omega arith) ∙ ap (λ (n : ℕ). drop n (reverse (drop k.floor operands))) none in
+    rw (left, take-take k.floor (length operands - count) operands (omega arith)) refl
 
 -- those that it takes
 taken_first : (operands : List Word) (floor count : ℕ) → floor ≤ length operands → count ≤ length operands - floor

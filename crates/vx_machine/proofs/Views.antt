@@ -11,5 +11,5 @@ kept_of m = record {
   captured = m.captured.items;
   texts = m.texts;
   next = m.next;
-  lines = m.lines;
+  lines = m.lines.items;
 }

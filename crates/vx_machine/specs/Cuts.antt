@@ -59,6 +59,10 @@ Lie (kept ∷ rest) locals operands =
 abbrev pub pushed : Word → Stacked → Stacked
 pushed word s = record s { running = record s.running { operands = word ∷ s.running.operands } }
 
+-- so many operands go from the top
+abbrev pub forgotten : ℕ → Stacked → Stacked
+forgotten count s = record s { running = record s.running { operands = drop count s.running.operands } }
+
 abbrev pub with_local : ℕ → Local → Stacked → Stacked
 with_local x held s = record s { running = record s.running { locals = slice_set s.running.locals x held } }
 

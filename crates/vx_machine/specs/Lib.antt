@@ -5,3 +5,6 @@ pub mod Slots
 pub mod Deeds
 pub mod Masks
 pub mod Sending
+pub mod Making
+pub mod Opening
+pub mod Running

@@ -1,5 +1,5 @@
 -- What the machine's words, stacks and lists mean.
-use Rattle.std.specs.Prelude.{◌≡◌, ℕ, ◌+◌, ◌≤◌, Bool, true, false, List, [], ◌∷◌, ◌++◌, length, map, get_or, slice_get, take, drop, reverse, Option}
+use Rattle.std.specs.Prelude.{◌≡◌, ℕ, ◌+◌, ◌<◌, ◌≤◌, Bool, true, false, List, [], ◌∷◌, ◌++◌, length, map, get_or, slice_get, take, drop, reverse, Option}
 use Rattle.std.specs.Prelude.{Some, None, Result, IfOk}
 use Rattle.std.specs.declared.alloc.AllocError.{AllocError}
 use Rattle.vx_syntax.specs.Expressions.{Bytes}
@@ -41,14 +41,16 @@ pub record Kept : Type 0 where
   pub next : ℕ
   pub lines : List Bytes
 
--- All strings that are made and all that is captured, up to some later moment. What the words of a moment mean doesn't change when more is added.
+-- All strings that are made, all that is captured and all lines, up to some later moment. What the words of a moment mean doesn't change when more is
+-- added.
 pub record Whole : Type 0 where
   pub texts : List Bytes
   pub captured : List Local
+  pub lines : List Bytes
 
 -- the moment is later than the machine
 abbrev pub Covers : Whole → Kept → Type 0
-Covers all m = Extends m.texts all.texts × Extends m.captured all.captured
+Covers all m = Extends m.texts all.texts × Extends m.captured all.captured × Extends m.lines all.lines
 
 -- strings that are made are places in the list of all of them
 abbrev pub value_of : List Bytes → Word → Value
@@ -194,8 +196,10 @@ abbrev pub Sets : Image → ℕ → Result Step AllocError → Kept → Kept →
 Sets image field result old new = IfOk result (λ step. (all : Whole) → Covers all new
     → Does step (sets (world image) field (arguments all 2 old) (frames image all 2 old) (state_of all old)) (machine_of image all new))
 
--- No block of the image fails with what is no name, the tables' names are names, and no table has more rows than masks have bits.
+-- No block of the image fails with what is no name, the tables' names are names, no table has more rows than masks have bits, and the number of objects has
+-- four bytes.
 pub record IsFine (image : Image) : Type 0 where
+  pub objects : length image.shapes < 4294967296
   pub named : (code block : ℕ) (found : Block) → block_at image code block ≡ Some found → AreNamed found.code
   pub names : (t : ℕ) (table : Table) → slice_get image.tables t ≡ Some table → IsName table.name
   pub rows : (t : ℕ) (table : Table) → slice_get image.tables t ≡ Some table → length table.rows ≤ 128
@@ -205,9 +209,13 @@ abbrev pub AllRise : Image → Type 0
 AllRise image = (t : ℕ) (table : Table) (p : ℕ) (position : Position) → slice_get image.tables t ≡ Some table
     → slice_get table.positions p ≡ Some position → Rises position.classes
 
+-- what the rows of a table beat
+abbrev pub beats_in : Table → List ℕ
+beats_in table = map (λ row. row.beats) table.rows
+
 -- for each table, what its rows beat
 abbrev pub beats_of : Image → List (List ℕ)
-beats_of image = map (λ table. map (λ row. row.beats) table.rows) image.tables
+beats_of image = map beats_in image.tables
 
 -- an image with what was made ready for it
 pub record IsReady (image : Image) (beats : List (List ℕ)) (rise : Bool) : Type 0 where
@@ -215,6 +223,10 @@ pub record IsReady (image : Image) (beats : List (List ℕ)) (rise : Bool) : Typ
   pub beaten : beats ≡ beats_of image
   pub rising : rise ≡ true → AllRise image
 
--- what covers the one covers the other, since nothing that was made is forgotten
+-- what covers the one covers the other, since nothing that was made or printed is forgotten
 abbrev pub IsLater : Kept → Kept → Type 0
 IsLater old new = (all : Whole) → Covers all new → Covers all old
+
+-- up to this moment
+abbrev pub whole_of : Kept → Whole
+whole_of m = record { texts = m.texts; captured = m.captured; lines = m.lines }

@@ -2,10 +2,11 @@
 ghost use Rattle.std.specs.Prelude.{◌≡◌, ◌<◌, ◌≤◌, ◌+◌, [], ◌∷◌, Some, None, true, false, OnOk, OnErr, IfOk, MatchOption, slice_get, length, reverse};
 ghost use Rattle.std.specs.Prelude.{take, ◌++◌};
 ghost use Rattle.std.specs.Option.{option_copied};
-ghost use Rattle.vx_machine.specs.Cuts.{Extends, AreNamed, IsNamed, opened, pushed, with_local, with_left, entered, restarted, is_home, below_home};
+ghost use Rattle.vx_machine.specs.Cuts.{Extends, AreNamed, IsNamed, opened, pushed, forgotten, with_local, with_left, entered, restarted, is_home, below_home};
+ghost use Rattle.vx_machine.specs.Opening.{alone};
 
 use crate::word::{Kept, Local, Role, Word};
-use std::alloc::AllocError;
+use std::alloc::{AllocError, Global};
 use std::marker::Model;
 use vx_format::{Block, Instr};
 
@@ -30,6 +31,29 @@ impl<'a> Model for Activations<'a> {
 }
 
 impl<'a> Activations<'a> {
+    /// The activation of a code without arguments, the first of a run.
+    pub fn new(alloc: Global, code: u32, block: &'a Block) -> Result<Activations<'a>, AllocError>
+        requires { AreNamed block.now.code }
+        ensures { IfOk result (λ a. a ≡ alone code block.entry.now) }
+    {
+        let mut locals = Vec::new(alloc);
+        open(&mut locals, &[], &[], block.locals)?;
+        let running = Kept {
+            instrs: block.code.as_slice(),
+            next: 0,
+            code,
+            base: 0,
+            floor: 0,
+            role: Role::Method(0),
+        };
+        Ok(Activations {
+            running,
+            below: Vec::new(alloc),
+            locals,
+            operands: Vec::new(alloc),
+        })
+    }
+
     /// Puts an operand on top.
     pub fn push(&mut self, word: Word<'a>) -> Result<(), AllocError>
         ensures ok { OnOk result (self.new ≡ pushed word.entry self.old) }
@@ -47,6 +71,14 @@ impl<'a> Activations<'a> {
             return None;
         }
         self.operands.pop()
+    }
+
+    /// Drops so many operands from the top.
+    pub fn forget(&mut self, count: usize)
+        requires { count ≤ length self.old.running.operands }
+        ensures { self.new ≡ forgotten count self.old }
+    {
+        self.operands.truncate(self.operands.len() - count);
     }
 
     /// The operand that has so many above it.

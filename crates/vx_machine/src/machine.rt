@@ -29,7 +29,7 @@ pub struct Machine<'a> {
     /// The number of the next activation.
     pub next: u64,
     /// The lines that were printed.
-    pub lines: Items<Items<u8>>,
+    pub lines: Vec<Items<u8>>,
     /// Room for the truth values of tests.
     pub truths: Truths,
     /// Room for the rows that the arguments of a message may take.
@@ -49,7 +49,7 @@ impl<'a> Model for Machine<'a> {
       captured = m.captured.items;
       texts = m.texts;
       next = m.next;
-      lines = m.lines;
+      lines = m.lines.items;
     } };
 }
 

@@ -1,19 +1,24 @@
 //! An image made ready to run.
-ghost use Rattle.std.specs.Prelude.{◌≡◌, ◌<◌, Some, IfOk, IfSome, length, map, slice_get};
+ghost use Rattle.std.specs.Prelude.{◌≡◌, ◌<◌, true, Some, IfOk, IfSome, length, map, slice_get};
 ghost use Rattle.vx_places.specs.Dispatch.{dispatched};
 ghost use Rattle.std.specs.Option.{option_copied};
 ghost use Rattle.vx_format.specs.declared.image.Table.{Table};
 ghost use Rattle.vx_names.specs.Name.{IsName};
 ghost use Rattle.vx_places.specs.ImageMachine.{block_at};
-ghost use Rattle.vx_machine.specs.Meaning.{IsFine, Texts, things_of, value_of};
+ghost use Rattle.std.specs.List.{list_all};
+ghost use Rattle.vx_format.specs.declared.image.Version.{Version};
+ghost use Rattle.vx_format.specs.Layout.{is_image};
+ghost use Rattle.vx_machine.specs.Meaning.{IsFine, Texts, beats_in, things_of, value_of};
+ghost use Rattle.vx_machine.specs.Opening.{rising};
 
 use crate::dispatch::masks;
 use crate::truths::Truths;
 use crate::word::{Object, Word};
 use sqlite_items::{Items, at};
-use std::alloc::AllocError;
+use std::alloc::{AllocError, Global};
 use std::marker::Model;
-use vx_format::{Block, Image, Table};
+use vx_format::{Block, ClassMask, Image, Position, Row, Slot, Table};
+use vx_image::names_are_names;
 use vx_tables::{Picked, pick};
 
 /// An image with what its rows beat, table by table, and whether all classes rise, which contracts see as the image.
@@ -36,6 +41,18 @@ impl<'a> Model for Ready<'a> {
 }
 
 impl<'a> Ready<'a> {
+    /// Makes an image ready that fits a version of the format.
+    pub fn new(alloc: Global, image: &'a Image) -> Result<Ready<'a>, AllocError>
+        requires { (v : Version) × (is_image v image.now ≡ true) }
+        ensures { IfOk result (λ ready. ready ≡ image.entry.now) }
+    {
+        names_are_names();
+        let tables = image.tables.as_slice();
+        let beats = all_beats(alloc, tables)?;
+        let rise = all_rise(tables);
+        Ok(Ready { image, beats, rise })
+    }
+
     /// The image.
     pub fn image(&self) -> &'a Image
         ensures image { result.now ≡ self.now }
@@ -53,6 +70,14 @@ impl<'a> Ready<'a> {
             None => None,
             Some(blocks) => blocks.get(block as usize),
         }
+    }
+
+    /// The slots of an object of the image, as they are at first.
+    pub fn shape(&self, class: u32) -> Option<&'a Items<Slot>>
+        ensures { option_copied result ≡ slice_get self.now.shapes class }
+    {
+        let image = self.image;
+        at(image.shapes.as_slice(), class as usize)
     }
 
     /// The table of a place.
@@ -87,4 +112,64 @@ impl<'a> Ready<'a> {
         let beats = self.beats.as_slice();
         Ok(pick(beats[t as usize].as_slice(), found.as_slice(), below))
     }
+}
+
+// What the rows of each table beat.
+fn all_beats(alloc: Global, tables: &[Table]) -> Result<Items<Items<u128>>, AllocError>
+    ensures { IfOk result (λ beats. beats ≡ map beats_in tables.now) }
+{
+    let mut beats = Items::new(alloc);
+    for table in tables {
+        beats.push(row_beats(alloc, table.rows.as_slice())?)?;
+    }
+    Ok(beats)
+}
+
+// What each row beats.
+fn row_beats(alloc: Global, rows: &[Row]) -> Result<Items<u128>, AllocError>
+    ensures { IfOk result (λ beats. beats ≡ map (λ row. row.beats) rows.now) }
+{
+    let mut beats = Items::new(alloc);
+    for row in rows {
+        beats.push(row.beats)?;
+    }
+    Ok(beats)
+}
+
+// Whether the classes of each position of each table rise.
+fn all_rise(tables: &[Table]) -> bool
+    ensures { result ≡ list_all (λ table. list_all (λ position. rising 0 position.classes) table.positions) tables.now }
+{
+    for table in tables {
+        if !positions_rise(table.positions.as_slice()) {
+            return false;
+        }
+    }
+    true
+}
+
+// Whether the classes of each position rise.
+fn positions_rise(positions: &[Position]) -> bool
+    ensures { result ≡ list_all (λ position. rising 0 position.classes) positions.now }
+{
+    for position in positions {
+        if !rises(position.classes.as_slice()) {
+            return false;
+        }
+    }
+    true
+}
+
+// Whether the classes rise.
+fn rises(entries: &[ClassMask]) -> bool
+    ensures { result ≡ rising 0 entries.now }
+{
+    let mut least = 0u64;
+    for entry in entries {
+        if (entry.symbol as u64) < least {
+            return false;
+        }
+        least = entry.symbol as u64 + 1;
+    }
+    true
 }

@@ -8,7 +8,7 @@ ghost use Rattle.vx_machine.specs.Meaning.{Texts, things_of, value_of};
 use crate::objects::held;
 use crate::word::{Object, Word};
 use sqlite_items::at;
-use std::alloc::AllocError;
+use std::alloc::{AllocError, Global};
 use std::marker::Model;
 use vx_format::{Step, Test};
 
@@ -27,6 +27,15 @@ impl Model for Truths {
 }
 
 impl Truths {
+    /// None yet.
+    pub fn new(alloc: Global) -> Truths
+        ensures { result ≡ [] }
+    {
+        Truths {
+            items: Vec::new(alloc),
+        }
+    }
+
     /// Adds one.
     pub fn push(&mut self, truth: bool) -> Result<(), AllocError>
         ensures ok { OnOk result (self.new ≡ truth ∷ self.old) }

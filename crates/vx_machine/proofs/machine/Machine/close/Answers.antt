@@ -9,25 +9,25 @@ use Rattle.vx_machine.proofs.Views.{kept_of}
 use Rattle.vx_machine.proofs.machine.Machine.close.Goals as goal
 
 pub returns-in_err-capture-clause-later : goal.returns-in_err-capture-clause-later
-returns-in_err-capture-clause-later c = λ all covers. rw (← c.self.view_is) (covers.0, extends_more _ _ _ c.capture.ensures.extends covers.1)
+returns-in_err-capture-clause-later c = λ all covers. rw (← c.self.view_is) (covers.0, extends_more _ _ _ c.capture.ensures.extends covers.1, covers.2)
 
 pub returns-then-not-branch-clause-later : goal.returns-then-not-branch-clause-later
-returns-then-not-branch-clause-later c = λ all covers. rw (← c.self.view_is) (covers.0, extends_more _ _ _ c.capture.ensures.extends covers.1)
+returns-then-not-branch-clause-later c = λ all covers. rw (← c.self.view_is) (covers.0, extends_more _ _ _ c.capture.ensures.extends covers.1, covers.2)
 
 pub returns-then-len-first-clause-later : goal.returns-then-len-first-clause-later
-returns-then-len-first-clause-later c = λ all covers. rw (← c.self.view_is) (covers.0, extends_more _ _ _ c.capture.ensures.extends covers.1)
+returns-then-len-first-clause-later c = λ all covers. rw (← c.self.view_is) (covers.0, extends_more _ _ _ c.capture.ensures.extends covers.1, covers.2)
 
 pub returns-then-place-clause-later : goal.returns-then-place-clause-later
-returns-then-place-clause-later c = λ all covers. rw (← c.self.view_is) (covers.0, extends_more _ _ _ c.capture.ensures.extends covers.1)
+returns-then-place-clause-later c = λ all covers. rw (← c.self.view_is) (covers.0, extends_more _ _ _ c.capture.ensures.extends covers.1, covers.2)
 
 pub returns-in_err-push-clause-later : goal.returns-in_err-push-clause-later
-returns-in_err-push-clause-later c = λ all covers. rw (← c.self.view_is) (covers.0, extends_more _ _ _ c.capture.ensures.extends covers.1)
+returns-in_err-push-clause-later c = λ all covers. rw (← c.self.view_is) (covers.0, extends_more _ _ _ c.capture.ensures.extends covers.1, covers.2)
 
 pub returns-in_err-push-2-clause-later : goal.returns-in_err-push-2-clause-later
-returns-in_err-push-2-clause-later c = λ all covers. rw (← c.self.view_is) (covers.0, extends_more _ _ _ c.capture.ensures.extends covers.1)
+returns-in_err-push-2-clause-later c = λ all covers. rw (← c.self.view_is) (covers.0, extends_more _ _ _ c.capture.ensures.extends covers.1, covers.2)
 
 pub returns-clause-later : goal.returns-clause-later
-returns-clause-later c = λ all covers. rw (← c.self.view_is) (covers.0, extends_more _ _ _ c.capture.ensures.extends covers.1)
+returns-clause-later c = λ all covers. rw (← c.self.view_is) (covers.0, extends_more _ _ _ c.capture.ensures.extends covers.1, covers.2)
 
 pub returns-then-not-branch-clause-does : goal.returns-then-not-branch-clause-does
 returns-then-not-branch-clause-does c = λ all covers.

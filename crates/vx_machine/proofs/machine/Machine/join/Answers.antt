@@ -15,11 +15,11 @@ use Rattle.vx_machine.proofs.machine.Machine.join.Goals as goal
 
 pub returns-in_err-push-in-Text-2-clause-later : goal.returns-in_err-push-in-Text-2-clause-later
 returns-in_err-push-in-Text-2-clause-later c = λ all covers. rw (← c.self.view_is)
-    (extends_more c.self.inside.texts c.push.new.self all.texts (c.in-Text.bytes ∷ [], c.in_ok-push-in-Text.ensures.ok) covers.0, covers.1)
+    (extends_more c.self.inside.texts c.push.new.self all.texts (c.in-Text.bytes ∷ [], c.in_ok-push-in-Text.ensures.ok) covers.0, covers.1, covers.2)
 
 pub returns-in_ok-push-in-Text-2-clause-later : goal.returns-in_ok-push-in-Text-2-clause-later
 returns-in_ok-push-in-Text-2-clause-later c = λ all covers. rw (← c.self.view_is)
-    (extends_more c.self.inside.texts c.push.new.self all.texts (c.in-Text.bytes ∷ [], c.in_ok-push-in-Text.ensures.ok) covers.0, covers.1)
+    (extends_more c.self.inside.texts c.push.new.self all.texts (c.in-Text.bytes ∷ [], c.in_ok-push-in-Text.ensures.ok) covers.0, covers.1, covers.2)
 
 pub returns-in-Finds-clause-does : goal.returns-in-Finds-clause-does
 returns-in-Finds-clause-does c = λ image all covers.

@@ -1,0 +1,4 @@
+pub mod Roster
+pub mod Link
+pub mod Walks
+pub mod Spells

@@ -1,0 +1,8 @@
+use Rattle.std.proofs.Common.{◌≡◌, ◌++◌, map, drop}
+use Rattle.vx_places.specs.ImageMachine.{fresh}
+use Rattle.vx_machine.specs.Making.{slot_value}
+use Rattle.vx_machine.specs.Meaning.{Texts}
+use Rattle.vx_machine.proofs.making.opened.Given as goal
+
+abbrev pub invariant-loop-slot : goal.invariant-loop-slot
+invariant-loop-slot l = (texts : Texts) → map (slot_value texts) l.slots ++ fresh l.own (drop l.slot-index l.shape) ≡ fresh l.own l.shape
