@@ -1,5 +1,5 @@
 -- What the message that begins a run comes to.
-use Rattle.std.proofs.Common.{◌≡◌, ◌∙◌, ℕ, zero, suc, ◌+◌, ◌<◌, ◌≤◌, Bool, true, false, eqb, if◌then◌else◌, List, [], ◌∷◌, ◌++◌, length, map, drop, get_or, codes}
+use Rattle.std.proofs.Common.{◌≡◌, ◌∙◌, ℕ, zero, suc, ◌+◌, ◌<◌, Bool, true, false, eqb, if◌then◌else◌, List, [], ◌∷◌, ◌++◌, length, map, drop, get_or, codes}
 use Rattle.std.proofs.Common.{Option, Some, None, Result, Ok, Err, IfOk, refl, sym, ap, subst, arith, append_assoc}
 use Rattle.std.specs.List.{list_all}
 use Rattle.std.specs.declared.alloc.AllocError.{AllocError}
@@ -9,7 +9,7 @@ use Rattle.std.proofs.lemmas.List.{drop_more, map-append}
 use Rattle.vx_model.specs.declared.value.Value.{Value}
 use Rattle.vx_model.specs.declared.report.RunError.TheVariants as e
 use Rattle.vx_model.specs.declared.primitives.Deed.{Deed}
-use Rattle.vx_model.specs.Primitives.{counts, deed_at, performed}
+use Rattle.vx_model.specs.Primitives.{counts, performed}
 use Rattle.vx_tables.specs.declared.picked.Picked.{Picked}
 use Rattle.vx_tables.specs.declared.picked.Picked.TheVariants as chosen
 use Rattle.vx_format.specs.declared.image.Own.{Own}

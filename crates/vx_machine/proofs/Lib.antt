@@ -13,3 +13,6 @@ pub mod Makes
 pub mod Fine
 pub mod Beginning
 pub mod Running
+pub mod Capturing
+pub mod Counting
+pub mod Sound

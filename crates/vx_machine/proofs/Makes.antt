@@ -1,29 +1,30 @@
 -- What the instruction that makes an object comes to.
-use Rattle.std.proofs.Common.{◌≡◌, ◌∙◌, ℕ, ◌≤◌, ◌<◌, Bool, true, false, List, [], ◌∷◌, ◌++◌, length, map, take, drop, reverse, Option, Some, None, refl, sym, ap}
-use Rattle.std.proofs.Common.{◌+◌, inl, inr, eqb, set, get_or, pos, arith}
-use Rattle.std.specs.List.{list_all}
+use Rattle.std.proofs.Common.{◌≡◌, ◌∙◌, ℕ, ◌≤◌, ◌<◌, true, false, List, [], ◌∷◌, ◌++◌, length, map, take, drop, reverse, Option, Some, None, refl, sym, ap}
+use Rattle.std.proofs.Common.{◌+◌, append_assoc, zero, suc, subst, inl, inr, eqb, set, get_or, pos, arith}
 use Rattle.std.specs.Option.{option_map}
 use Rattle.std.specs.Prelude.{is_some, slice_get}
-use Rattle.std.proofs.lemmas.Bool.{cases_Bool, eqb-true}
+use Rattle.std.proofs.lemmas.Bool.{cases_Bool}
 use Rattle.std.proofs.lemmas.List.{drop_more, map-append, length-map}
 use Rattle.vx_model.specs.declared.value.Value.{Value}
-use Rattle.vx_model.specs.declared.value.Value.TheVariants as v
 use Rattle.vx_format.specs.declared.image.Slot.{Slot}
 use Rattle.vx_format.specs.declared.image.Image.{Image}
 use Rattle.vx_format.specs.declared.image.Instr.TheVariants as n
-use Rattle.vx_compilation.specs.Activations.{Making, Makes, NoSlot, NoClass}
+use Rattle.vx_compilation.specs.Activations.{Making, NoClass}
 use Rattle.vx_compilation.specs.Machine.{Finds, Frame, Lacks, On, Stepped, makes}
-use Rattle.vx_places.specs.Dispatch.{Placed, slot_at}
-use Rattle.vx_places.specs.ImageMachine.{by_place, filled, fresh, have_slots, made, made_of, put_slot, world}
+use Rattle.vx_places.specs.Dispatch.{Placed}
+use Rattle.vx_places.specs.ImageMachine.{by_place, filled, fresh, have_slots, made, made_of, start_value}
+use Rattle.vx_lists.proofs.Rests.{left_at}
+use Rattle.vx_format.specs.declared.image.Own.{Own}
 use Rattle.vx_machine.specs.declared.word.Word.{Word}
 use Rattle.vx_machine.specs.declared.word.Word.TheVariants as w
-use Rattle.vx_machine.specs.declared.word.Object.{Object}
 use Rattle.vx_machine.specs.Cuts.{forgotten, pushed}
 use Rattle.vx_machine.specs.Making.{filled_words, has_slots, slot_value}
 use Rattle.vx_machine.specs.Meaning.{Kept, Texts, Whole, acted, arguments, frames, machine_of, placed_of, state_of, things_of, value_of}
 use Rattle.vx_machine.specs.Slots.{place_from, put_word, word_at}
-use Rattle.vx_machine.proofs.Calling.{takes, takes_lacks, map_reverse}
+use Rattle.vx_machine.proofs.Calling.{takes, takes_lacks}
 use Rattle.vx_machine.proofs.Fielding.{no_place, placing, put_mapped, slot_mapped}
+use Rattle.vx_machine.proofs.Sound.{puts}
+use Rattle.vx_machine.specs.Sound.{AreSlotsSound, AreWordsSound, IsWordSound}
 
 -- ---- slots of words and slots of values
 
@@ -42,6 +43,18 @@ filled_mapped texts [] words slots = refl
 filled_mapped texts (field ∷ fields) [] slots = refl
 filled_mapped texts (field ∷ fields) (word ∷ words) slots =
     ap (filled fields (map (value_of texts) words)) (put_mapped texts field word slots) ∙ filled_mapped texts fields words (put_word field word slots)
+
+-- ---- slots as they are at first
+
+-- a slot more is the next one that has its start
+pub opens_one : (own : Own) (texts : Texts) (slots : List (ℕ × Word)) (i : ℕ) (shape : List Slot) (slot : Slot) (word : Word) → i < length shape
+    → slot ≡ get_or shape i slot → value_of texts word ≡ start_value own slot.start
+    → map (slot_value texts) (slots ++ (slot.field, word) ∷ []) ++ fresh own (drop (i + 1) shape) ≡ map (slot_value texts) slots ++ fresh own (drop i shape)
+opens_one own texts slots i shape slot word lt is same =
+    ap (λ (values : List (ℕ × Value)). values ++ fresh own (drop (i + 1) shape)) (map-append (slot_value texts) slots ((slot.field, word) ∷ []))
+    ∙ append_assoc (map (slot_value texts) slots) ((slot.field, value_of texts word) ∷ []) (fresh own (drop (i + 1) shape))
+    ∙ ap (λ (value : Value). map (slot_value texts) slots ++ (slot.field, value) ∷ fresh own (drop (i + 1) shape)) same
+    ∙ ap (λ (rest : List Slot). map (slot_value texts) slots ++ fresh own rest) (sym (left_at shape i slot lt is))
 
 -- ---- slots are filled one after another
 
@@ -98,6 +111,17 @@ turn_filled fields words slots i found t =
     ap (filled_words (drop (i + 1) fields) (drop (i + 1) words)) (sym (put_after fields words slots i found t))
     ∙ sym (ap (λ (fs : List ℕ). filled_words fs (drop i words) slots) (drop_more fields i 0 t.within)
     ∙ ap (λ (ws : List Word). filled_words (get_or fields i 0 ∷ drop (i + 1) fields) ws slots) (drop_more words i none_read (omega (arith, t.within, t.as_many))))
+
+words_at : (texts : ℕ) (words : List Word) (i : ℕ) → AreWordsSound texts words → IsWordSound texts (get_or words i none_read)
+words_at texts [] i all = tt
+words_at texts (word ∷ words) zero all = all.0
+words_at texts (word ∷ words) (suc i) all = words_at texts words i all.1
+
+pub turn_sound : (texts : ℕ) (fields : List ℕ) (words : List Word) (slots : List (ℕ × Word)) (i found : ℕ) → Turn fields words slots i found
+    → AreWordsSound texts words → AreSlotsSound texts slots → AreSlotsSound texts (after_turn fields words slots i found)
+turn_sound texts fields words slots i found t given old =
+    subst (AreSlotsSound texts) (put_after fields words slots i found t)
+    (puts texts (get_or fields i 0) (get_or words i none_read) slots old (words_at texts words i given))
 
 pub has_not : (fields : List ℕ) (slots : List (ℕ × Word)) (i : ℕ) → i < length fields → place_from (get_or fields i 0) 0 slots ≡ None
     → has_slots (drop i fields) slots ≡ false

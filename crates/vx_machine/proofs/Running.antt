@@ -1,6 +1,5 @@
 -- What steps, one after another, come to.
-use Rattle.std.proofs.Common.{◌≡◌, ◌∙◌, ℕ, zero, suc, ◌+◌, ◌-◌, ◌<◌, ◌≤◌, List, [], ◌∷◌, ◌++◌, length, map, take, Result, Ok, Err, refl, sym, ap, subst, arith}
-use Rattle.std.proofs.lemmas.List.{append-nil}
+use Rattle.std.proofs.Common.{◌≡◌, ◌∙◌, ℕ, zero, suc, ◌+◌, ◌-◌, ◌<◌, ◌≤◌, List, [], ◌∷◌, length, map, take, Result, Ok, Err, refl, sym, ap, subst, arith}
 use Rattle.std.proofs.Math.Seq.{take-append_seam}
 use Rattle.vx_syntax.specs.Expressions.{Bytes}
 use Rattle.vx_model.specs.declared.report.RunError.{RunError}
@@ -22,21 +21,19 @@ use Rattle.vx_machine.specs.declared.runs.Ending.{Ending}
 use Rattle.vx_machine.specs.declared.word.Step.{Step}
 use Rattle.vx_machine.specs.declared.word.Step.TheVariants as steps
 use Rattle.vx_machine.specs.Running.{Ends, Steps, goes_on, looked, report_with, stepped}
+use Rattle.vx_machine.proofs.Counting.{covers_own, next_is_near}
 use Rattle.vx_machine.proofs.Fielding.{stacked_as}
-
--- a machine is covered by its own moment
-pub covers_own : (m : Kept) → Covers (whole_of m) m
-covers_own m = (([], sym (append-nil m.texts)), ([], sym (append-nil m.captured)), ([], sym (append-nil m.lines)))
 
 -- So many of the allowed instructions were done from the beginning to now.
 pub record Gone (image : Image) (n done : ℕ) (start now : Kept) : Type 0 where
   pub later : IsLater start now
   pub comes_to : (all : Whole) → Covers all now → goes_on image all n start ≡ goes_on image all (n - done) now
+  pub counted_upto : now.next ≤ start.next + done
 
 pub gone_none : (image : Image) (n : ℕ) (start : Kept) → Gone image n 0 start start
 gone_none image n start =
     let whole : n ≡ n - 0 = omega arith in
-    record { later = λ all covers. covers; comes_to = λ all covers. ap (λ (k : ℕ). goes_on image all k start) whole }
+    record { later = λ all covers. covers; comes_to = λ all covers. ap (λ (k : ℕ). goes_on image all k start) whole; counted_upto = omega arith }
 
 -- a step is one of those that are left
 one_left : (image : Image) (all : Whole) (n done : ℕ) (now : Kept) (next : Stepped by_place) → done < n → stepped image all now ≡ next
@@ -51,6 +48,9 @@ pub gone_one : (image : Image) (n done : ℕ) (start now after : Kept) → Gone 
 gone_one image n done start now after gone lt later does = record {
   later = λ all covers. gone.later all (later all covers);
   comes_to = λ all covers. gone.comes_to all (later all covers) ∙ one_left image all n done now (On (machine_of image all after)) lt (does all covers);
+  counted_upto =
+      let one : after.next ≤ suc now.next = next_is_near image now after (λ all covers. does all covers) in
+      omega (arith, one, gone.counted_upto);
 }
 
 -- the lines of before are the first of those that are there afterwards

@@ -1,6 +1,6 @@
 -- What a change of a local makes of the parts of the stacks.
 use Rattle.std.proofs.Common.{◌≡◌, ℕ, ◌+◌, ◌-◌, ◌≤◌, ◌<◌, List, [], ap, ◌∷◌, ◌++◌, length, drop, take, reverse, set, refl, arith, length-drop, sym}
-use Rattle.std.proofs.Common.{◌∙◌, append_assoc}
+use Rattle.std.proofs.Common.{◌∙◌, append_assoc, subst, Bool, true, false}
 use Rattle.std.proofs.lemmas.List.{drop-set-add, take-set-le, drop-take, length-reverse, reverse-reverse, drop-drop, take-take, take_all}
 use Rattle.std.proofs.lemmas.List.{drop-append-le, take-append-le, length-take-le}
 use Rattle.std.proofs.Math.Seq.{drop-append_seam, take-append_seam}
@@ -10,7 +10,7 @@ use Rattle.vx_format.specs.declared.image.Block.{Block}
 use Rattle.vx_machine.specs.declared.word.Word.{Word}
 use Rattle.vx_machine.specs.declared.word.Local.{Local}
 use Rattle.vx_machine.specs.declared.word.Kept.{Kept}
-use Rattle.vx_machine.specs.Cuts.{Extends, Lie, stacked, forgotten, with_local, opened, entered}
+use Rattle.vx_machine.specs.Cuts.{Cut, Stacked, Extends, IsRest, Lie, stacked, forgotten, with_local, opened, entered}
 
 pub local_there : (k : Kept) (below : List Kept) (locals : List Local) (operands : List Word) (x : ℕ) (held : Local) → x < length locals - k.base
     → (x < length (drop k.base locals)) × (stacked k below (set locals (k.base + x) held) operands ≡ with_local x held (stacked k below locals operands))
@@ -21,6 +21,14 @@ local_there k below locals operands x held lt =
 -- behind what was there come the captures, and then more
 pub extends_captures : {A : Type 0} (old captures more new : List A) → new ≡ (old ++ captures) ++ more → Extends old new
 extends_captures old captures more new e = (captures ++ more, e ∙ append_assoc old captures more)
+
+-- what is left when one more activation is left, if one waits
+pub left_over : (all : List Cut) (s new : Stacked) (waits : Bool) → IsRest all (s.running ∷ s.waiting)
+    → (waits ≡ true → s.waiting ≡ new.running ∷ new.waiting) → (waits ≡ false → (s.waiting ≡ []) × (new ≡ s)) → IsRest all (new.running ∷ new.waiting)
+left_over all s new true rest on last =
+    let more : List Cut = new.running ∷ new.waiting in
+    (rest.0 ++ s.running ∷ [], rest.1 ∙ ap (λ (waiting : List Cut). rest.0 ++ s.running ∷ waiting) (on refl) ∙ sym (append_assoc rest.0 (s.running ∷ []) more))
+left_over all s new false rest on last = subst (λ (own : Stacked). IsRest all (own.running ∷ own.waiting)) (sym (last refl).1) rest
 
 -- ---- a block that is entered
 

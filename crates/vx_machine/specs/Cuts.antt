@@ -98,6 +98,14 @@ restarted code block captures role s = record {
   waiting = s.waiting;
 }
 
+-- the activation that runs, without operands and locals
+abbrev pub emptied : Stacked → Stacked
+emptied s = record s { running = record s.running { operands = []; locals = [] } }
+
+-- those are the last of all
+abbrev pub IsRest : List Cut → List Cut → Type 0
+IsRest all rest = (front : List Cut) × (all ≡ front ++ rest)
+
 abbrev pub is_home : ℕ → Role → Bool
 is_home home (roles.Method number) = home == number
 is_home home role = false

@@ -19,6 +19,7 @@ use Rattle.vx_machine.specs.declared.primitives.Answer.TheVariants as answers
 use Rattle.vx_machine.specs.declared.primitives.Joined.{Joined}
 use Rattle.vx_machine.specs.declared.primitives.Joined.TheVariants as joined
 use Rattle.vx_machine.specs.Cuts.{Extends}
+use Rattle.vx_machine.specs.Sound.{IsWordSound}
 use Rattle.vx_machine.specs.Meaning.{Covers, Does, Kept, Texts, Whole, arguments, frames, machine_of, state_of, value_of}
 
 -- a call did what the definition says of a deed that so many operands come to
@@ -36,6 +37,11 @@ abbrev pub deed_of : Texts → Answer → Deed
 deed_of texts (answers.Word word) = deeds.Answers (value_of texts word)
 deed_of texts (answers.Breaks error) = deeds.Breaks error
 deed_of texts answers.Finds = deeds.Lacks
+
+-- an answer names no string that was made
+abbrev pub IsAnswerSound : Answer → Type 0
+IsAnswerSound (answers.Word word) = (texts : ℕ) → IsWordSound texts word
+IsAnswerSound answer = Unit {0}
 
 -- an answer stands for a deed of two words, whatever strings are made later
 abbrev pub Answers : List Bytes → (List Value → Deed) → Word → Word → Answer → Type 0

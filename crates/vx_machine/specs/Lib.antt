@@ -2,6 +2,7 @@ pub mod Cuts
 pub mod Rising
 pub mod Meaning
 pub mod Slots
+pub mod Sound
 pub mod Deeds
 pub mod Masks
 pub mod Sending

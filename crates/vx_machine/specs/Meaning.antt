@@ -156,6 +156,10 @@ Turns image held result old new = IfOk result (λ step. (all : Whole) → Covers
     → Does step (turns (closed_of all held) (codes_of image held.code held.block) (machine_of image all old).below (state_of all old))
     (machine_of image all new))
 
+abbrev pub is_unset : Local → Bool
+is_unset h.Unset = true
+is_unset held = false
+
 -- what a closure captures, or none where a local is missing or unset
 abbrev pub captured_one : Option Local → Option (List Local) → Option (List Local)
 captured_one (Some (h.Plain word)) (Some locals) = Some (h.Plain word ∷ locals)

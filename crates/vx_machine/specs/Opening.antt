@@ -11,6 +11,7 @@ use Rattle.vx_machine.specs.declared.opening.Begun.TheVariants as begun
 use Rattle.vx_machine.specs.declared.word.Role.TheVariants as roles
 use Rattle.vx_machine.specs.Cuts.{Stacked, opened}
 use Rattle.vx_machine.specs.Meaning.{Whole, frame_of}
+use Rattle.vx_machine.specs.Sound.{IsStackSound}
 
 -- the one activation of a method without arguments, which is the first
 abbrev pub alone : ℕ → Block → Stacked
@@ -29,6 +30,12 @@ Begins image target (begun.Runs s) = (all : Whole) → reached_first image targe
     ≡ On (record { now = frame_of image all s.running; below = map (frame_of image all) s.waiting; state = counted (opening image) })
 Begins image target begun.Lacks = reached_first image target ≡ Lacks
 Begins image target (begun.Stops error) = reached_first image target ≡ Stops error (opening image)
+
+-- the first activation names nothing that would have to be there
+abbrev pub IsBegunSound : Begun → Type 0
+IsBegunSound (begun.Runs s) = (texts captured : ℕ) → IsStackSound texts captured s
+IsBegunSound begun.Lacks = Unit {0}
+IsBegunSound (begun.Stops error) = Unit {0}
 
 -- each class is at least so great and greater than the one before it
 abbrev pub rising : ℕ → List ClassMask → Bool

@@ -24,11 +24,11 @@ abbrev pub put_word : ℕ → Word → List (ℕ × Word) → List (ℕ × Word)
 put_word field word [] = []
 put_word field word (slot ∷ rest) = if slot.0 == field then (slot.0, word) ∷ rest else slot ∷ put_word field word rest
 
--- a word was put where there is such an object and slot
+-- a word was put where there is such an object and slot, or nothing changed
 abbrev pub Changes : Bool → ℕ → ℕ → Word → List Object → List Object → Type 0
 Changes true number field word old new = (object : Object) × (held : Word) × (slice_get old number ≡ Some object) × (word_at field object.slots ≡ Some held)
     × (new ≡ slice_set old number (record object { slots = put_word field word object.slots }))
-Changes false number field word old new = held_at old number field ≡ None
+Changes false number field word old new = (held_at old number field ≡ None) × (new ≡ old)
 
 -- the class of an object that is there
 abbrev pub class_at : List Object → ℕ → Option ℕ

@@ -2,7 +2,8 @@
 ghost use Rattle.std.specs.Prelude.{◌≡◌, ◌<◌, ◌≤◌, ◌+◌, [], ◌∷◌, Some, None, true, false, OnOk, OnErr, IfOk, MatchOption, slice_get, length, reverse};
 ghost use Rattle.std.specs.Prelude.{take, ◌++◌};
 ghost use Rattle.std.specs.Option.{option_copied};
-ghost use Rattle.vx_machine.specs.Cuts.{Extends, AreNamed, IsNamed, opened, pushed, forgotten, with_local, with_left, entered, restarted, is_home, below_home};
+ghost use Rattle.vx_machine.specs.Cuts.{Extends, AreNamed, IsNamed, IsRest, opened, emptied, pushed, forgotten, with_local, with_left, entered};
+ghost use Rattle.vx_machine.specs.Cuts.{restarted, is_home, below_home};
 ghost use Rattle.vx_machine.specs.Opening.{alone};
 
 use crate::word::{Kept, Local, Role, Word};
@@ -191,7 +192,8 @@ impl<'a> Activations<'a> {
     ) -> Result<(), AllocError>
         requires operands { count + under ≤ length self.old.running.operands }
         requires named { AreNamed block.now.code }
-        ensures { OnOk result (self.new ≡ entered code block.entry.now captures.entry.now count under role self.old) }
+        ensures ok { OnOk result (self.new ≡ entered code block.entry.now captures.entry.now count under role self.old) }
+        ensures err { OnErr result (self.new ≡ self.old) }
     {
         let base = self.locals.len();
         let floor = self.operands.len() - count;
@@ -228,15 +230,24 @@ impl<'a> Activations<'a> {
         role: Role,
     ) -> Result<(), AllocError>
         requires named { AreNamed block.now.code }
-        ensures { OnOk result (self.new ≡ restarted code block.entry.now captures.entry.now role self.old) }
+        ensures ok { OnOk result (self.new ≡ restarted code block.entry.now captures.entry.now role self.old) }
+        ensures err { OnErr result (self.new ≡ emptied self.old) }
     {
         self.locals.truncate(self.running.base);
         self.operands.truncate(self.running.floor);
-        self.running.instrs = block.code.as_slice();
-        self.running.next = 0;
-        self.running.code = code;
-        self.running.role = role;
-        open(&mut self.locals, captures, &[], block.locals)
+        match open(&mut self.locals, captures, &[], block.locals) {
+            Ok(()) => {
+                self.running.instrs = block.code.as_slice();
+                self.running.next = 0;
+                self.running.code = code;
+                self.running.role = role;
+                Ok(())
+            }
+            Err(AllocError) => {
+                self.locals.truncate(self.running.base);
+                Err(AllocError)
+            }
+        }
     }
 
     /// Leaves the activation that is the home, with all above it. It answers whether one was waiting, or nothing where the home has ended.
@@ -244,6 +255,7 @@ impl<'a> Activations<'a> {
         ensures dead { result ≡ None → below_home home (self.old.running ∷ self.old.waiting) ≡ None }
         ensures waits { result ≡ Some true → below_home home (self.old.running ∷ self.old.waiting) ≡ Some (self.new.running ∷ self.new.waiting) }
         ensures last { result ≡ Some false → below_home home (self.old.running ∷ self.old.waiting) ≡ Some [] }
+        ensures rest { IsRest (self.old.running ∷ self.old.waiting) (self.new.running ∷ self.new.waiting) }
     {
         while !is_home(home, self.running.role) {
             if !self.leave() {

@@ -1,10 +1,11 @@
 //! Calls and returns.
-ghost use Rattle.std.specs.Prelude.{◌≡◌, ◌≤◌, ◌+◌, Some, None, IfOk, IfSome, length, take, drop};
+ghost use Rattle.std.specs.Prelude.{◌≡◌, ◌≤◌, ◌<◌, ◌+◌, ◌^◌, Some, None, IfOk, length, take, drop};
 ghost use Rattle.vx_format.specs.declared.image.Image.{Image};
 ghost use Rattle.vx_compilation.specs.Machine.{home_of};
 ghost use Rattle.vx_format.specs.declared.image.Instr.TheVariants as instrs;
 ghost use Rattle.vx_compilation.specs.Activations.{ToCode};
 ghost use Rattle.vx_machine.specs.Meaning.{Whole, Did, Delivers, IsLater, Reached, Turns, role_of};
+ghost use Rattle.vx_machine.specs.Sound.{IsHeldSound, IsWordSound};
 
 use crate::machine::Machine;
 use crate::ready::Ready;
@@ -15,7 +16,8 @@ use vx_model::RunError;
 impl<'a> Machine<'a> {
     /// Enters a method's code with so many operands as its arguments.
     pub fn enter(&mut self, ready: &Ready<'a>, code: u32, count: usize) -> Result<Step, AllocError>
-        requires { count ≤ length self.old.stacked.running.operands }
+        requires enough { count ≤ length self.old.stacked.running.operands }
+        requires room { self.old.next + 1 < 2 ^ 64 }
         ensures does { Reached ready.now (ToCode code) count result self.old self.new }
         ensures later { IsLater self.old self.new }
     {
@@ -26,17 +28,15 @@ impl<'a> Machine<'a> {
         if block.formals as usize != count {
             return Ok(Step::Lacks);
         }
-        let Some(next) = self.next.checked_add(1) else {
-            return Err(AllocError);
-        };
         let role = Role::Method(self.next);
         self.activations.enter(code, block, &[], count, 0, role)?;
-        self.next = next;
+        self.next += 1;
         Ok(Step::On)
     }
 
     /// Enters a code with its arguments, which are on top.
     pub fn call(&mut self, ready: &Ready<'a>, code: u32) -> Result<Step, AllocError>
+        requires room { self.old.next + 1 < 2 ^ 64 }
         ensures does { Did ready.now (instrs.Call code) result self.old self.new }
         ensures later { IsLater self.old self.new }
     {
@@ -66,10 +66,10 @@ impl<'a> Machine<'a> {
         ensures does { (image : Image) → Did image instrs.Home result self.old self.new }
         ensures later { IsLater self.old self.new }
     {
+        let home = self.home();
         match self.activations.pop() {
             None => Ok(Step::Lacks),
             Some(word) => {
-                let home = self.home();
                 match self.activations.leave_home(home) {
                     None => Ok(Step::Stops(RunError::DeadReturn)),
                     Some(false) => Ok(Step::Over),
@@ -99,6 +99,7 @@ impl<'a> Machine<'a> {
 
     // Leaves the activation with a value for the one that waits.
     fn deliver(&mut self, word: Word<'a>) -> Result<Step, AllocError>
+        requires { IsWordSound (length self.old.texts) word }
         ensures does { (image : Image) → Delivers image word.entry result self.old self.new }
         ensures later { IsLater self.old self.new }
     {
@@ -112,6 +113,7 @@ impl<'a> Machine<'a> {
 
     // Begins the next turn of a loop in the place of the activation that runs.
     fn turn(&mut self, ready: &Ready<'a>, held: Held) -> Result<Step, AllocError>
+        requires { IsHeldSound (length self.old.captured) held }
         ensures does { Turns ready.now held result self.old self.new }
         ensures later { IsLater self.old self.new }
     {
@@ -119,23 +121,19 @@ impl<'a> Machine<'a> {
         let Some(block) = ready.block(held.code, held.block) else {
             return Ok(Step::Lacks);
         };
-        let Some(captures) = part(self.captured.as_slice(), held.first, held.count) else {
-            return Err(AllocError);
-        };
+        let captures = part(self.captured.as_slice(), held.first, held.count);
         let role = Role::Turn(held);
         self.activations.restart(held.code, block, captures, role)?;
         Ok(Step::On)
     }
 }
 
-/// So many from a place on, or nothing where they are not there. What a closure captured is always there.
-pub fn part<'b, 'a>(captured: &'b [Local<'a>], first: usize, count: u32) -> Option<&'b [Local<'a>]>
-    ensures { IfSome result (λ found. ((first + count) ≤ length captured.now) × (found.now ≡ take count (drop first captured.now))) }
+/// So many from a place on.
+pub fn part<'b, 'a>(captured: &'b [Local<'a>], first: usize, count: u32) -> &'b [Local<'a>]
+    requires { (first + count) ≤ length captured.now }
+    ensures { result.now ≡ take count (drop first captured.entry.now) }
 {
-    if first > captured.len() || captured.len() - first < count as usize {
-        return None;
-    }
     let (_, rest) = captured.split_at(first);
     let (found, _) = rest.split_at(count as usize);
-    Some(found)
+    found
 }

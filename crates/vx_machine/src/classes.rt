@@ -13,10 +13,10 @@ use std::alloc::AllocError;
 use vx_format::{ClassMask, Image, Own, Position};
 
 // The class of an object.
-fn class_at(objects: &[Object<'_>], number: u32) -> Option<u32>
+fn class_at(objects: &[Object<'_>], number: usize) -> Option<u32>
     ensures { result ≡ class_at objects.entry.now number }
 {
-    match objects.get(number as usize) {
+    match objects.get(number) {
         None => None,
         Some(object) => Some(object.class),
     }

@@ -1,9 +1,10 @@
 //! Closures: how they are made, evaluated and repeated.
-ghost use Rattle.std.specs.Prelude.{◌≡◌, ◌≤◌, ◌<◌, ◌+◌, ◌++◌, Some, None, true, false, IfOk, length, slice_get};
+ghost use Rattle.std.specs.Prelude.{◌≡◌, ℕ, ◌≤◌, ◌<◌, ◌+◌, ◌++◌, Some, None, true, false, IfOk, length, slice_get};
 ghost use Rattle.vx_format.specs.declared.image.Instr.TheVariants as instrs;
 ghost use Rattle.vx_compilation.specs.Activations.{ToPrimitive};
 ghost use Rattle.vx_machine.specs.Cuts.{Extends};
-ghost use Rattle.vx_machine.specs.Meaning.{Captures, Did, Evaluates, IsLater, Repeats};
+ghost use Rattle.vx_machine.specs.Meaning.{Captures, Did, Evaluates, IsLater, Repeats, is_unset};
+ghost use Rattle.vx_machine.specs.Sound.{AreLocalsSound};
 
 use crate::activations::Activations;
 use crate::calls::part;
@@ -19,6 +20,7 @@ impl<'a> Machine<'a> {
         ensures does { Did ready.now (instrs.Closure block xs.now) result self.old self.new }
         ensures later { IsLater self.old self.new }
     {
+        let home = self.home();
         let code = self.activations.code();
         let Some(found) = ready.block(code, block) else {
             return Ok(Step::Lacks);
@@ -31,33 +33,30 @@ impl<'a> Machine<'a> {
             return Ok(Step::Lacks);
         }
         let place = self.closures.len();
-        if place > u32::MAX as usize {
-            return Err(AllocError);
-        }
         let held = Held {
             code,
             block,
-            home: self.home(),
+            home,
             first,
             count: found.captures,
         };
         self.closures.push(held)?;
-        self.activations.push(Word::Closure(place as u32))?;
+        self.activations.push(Word::Closure(place))?;
         Ok(Step::On)
     }
 
     // The closure.
-    fn closure(&self, closure: u32) -> Option<Held>
+    fn closure(&self, closure: usize) -> Option<Held>
         ensures { result ≡ slice_get self.now.closures closure }
     {
-        self.closures.get(closure as usize).copied()
+        self.closures.get(closure).copied()
     }
 
     /// Evaluates a closure, which so many operands, its arguments, have below them.
     pub fn evaluate(
         &mut self,
         ready: &Ready<'a>,
-        closure: u32,
+        closure: usize,
         count: u8,
     ) -> Result<Step, AllocError>
         requires { count + 1 ≤ length self.old.stacked.running.operands }
@@ -74,9 +73,7 @@ impl<'a> Machine<'a> {
         if block.formals != count {
             return Ok(Step::Stops(RunError::ClosureArity(count)));
         }
-        let Some(captures) = part(self.captured.as_slice(), held.first, held.count) else {
-            return Err(AllocError);
-        };
+        let captures = part(self.captured.as_slice(), held.first, held.count);
         let role = Role::Evaluation(held.home);
         self.activations
             .enter(held.code, block, captures, count as usize, 1, role)?;
@@ -84,7 +81,7 @@ impl<'a> Machine<'a> {
     }
 
     /// Begins the first turn of a loop over the closure that is on top.
-    pub fn repeat(&mut self, ready: &Ready<'a>, closure: u32) -> Result<Step, AllocError>
+    pub fn repeat(&mut self, ready: &Ready<'a>, closure: usize) -> Result<Step, AllocError>
         requires { 1 ≤ length self.old.stacked.running.operands }
         ensures does { Repeats ready.now closure result self.old self.new }
         ensures later { IsLater self.old self.new }
@@ -99,9 +96,7 @@ impl<'a> Machine<'a> {
         if block.formals != 0 {
             return Ok(Step::Stops(RunError::ClosureArity(0)));
         }
-        let Some(captures) = part(self.captured.as_slice(), held.first, held.count) else {
-            return Err(AllocError);
-        };
+        let captures = part(self.captured.as_slice(), held.first, held.count);
         let role = Role::Turn(held);
         self.activations
             .enter(held.code, block, captures, 0, 1, role)?;
@@ -117,13 +112,28 @@ fn capture<'a>(
 ) -> Result<bool, AllocError>
     ensures captures { IfOk result (λ there. Captures there xs.now activations.now.running.locals captured.old.items captured.new.items) }
     ensures extends { Extends captured.old.items captured.new.items }
+    ensures sound { (texts : ℕ) → AreLocalsSound texts activations.now.running.locals → AreLocalsSound texts captured.old.items
+        → AreLocalsSound texts captured.new.items }
 {
     for x in xs {
-        match activations.local(*x) {
-            None => return Ok(false),
-            Some(Local::Unset) => return Ok(false),
-            Some(held) => captured.push(held)?,
+        let Some(held) = activations.local(*x) else {
+            return Ok(false);
+        };
+        if is_unset(held) {
+            return Ok(false);
         }
+        captured.push(held)?;
     }
     Ok(true)
+}
+
+// Whether a local holds nothing yet.
+fn is_unset(held: Local<'_>) -> bool
+    ensures { result ≡ is_unset held.entry }
+{
+    match held {
+        Local::Unset => true,
+        Local::Plain(_) => false,
+        Local::Cell(_) => false,
+    }
 }

@@ -1,5 +1,5 @@
 //! The machine, and the instructions on operands, locals and cells.
-ghost use Rattle.std.specs.Prelude.{◌≡◌, Some, None, IfOk};
+ghost use Rattle.std.specs.Prelude.{◌≡◌, ◌+◌, ◌<◌, ◌^◌, Some, None, IfOk};
 ghost use Rattle.vx_format.specs.declared.image.Instr.TheVariants as instrs;
 ghost use Rattle.vx_format.specs.declared.image.Image.{Image};
 ghost use Rattle.vx_machine.specs.Meaning.{Did, IsLater};
@@ -11,7 +11,7 @@ use sqlite_items::Items;
 use std::alloc::AllocError;
 use std::marker::Model;
 
-/// A run, which contracts see as the machine of the definition.
+/// A run, which contracts see as the machine of the definition. Its words name what is there.
 #[derive(Drop)]
 pub struct Machine<'a> {
     /// The activations.
@@ -38,6 +38,7 @@ pub struct Machine<'a> {
 
 impl<'a> Model for Machine<'a> {
     ghost use Rattle.vx_machine.specs.Meaning as meaning;
+    ghost use Rattle.vx_machine.specs.Sound as sound;
 
     ghost Value = { meaning.Kept };
 
@@ -51,6 +52,17 @@ impl<'a> Model for Machine<'a> {
       next = m.next;
       lines = m.lines.items;
     } };
+
+    ghost invariant = { λ m. sound.IsSound (record {
+      stacked = m.activations;
+      objects = m.objects.items;
+      cells = m.cells.items;
+      closures = m.closures.items;
+      captured = m.captured.items;
+      texts = m.texts;
+      next = m.next;
+      lines = m.lines.items;
+    }) };
 }
 
 impl<'a> Machine<'a> {
@@ -77,7 +89,7 @@ impl<'a> Machine<'a> {
         ensures does { (image : Image) → Did image (instrs.Object o) result self.old self.new }
         ensures later { IsLater self.old self.new }
     {
-        self.activations.push(Word::Object(o))?;
+        self.activations.push(Word::Object(o as usize))?;
         Ok(Step::On)
     }
 
@@ -110,16 +122,12 @@ impl<'a> Machine<'a> {
 
     /// Takes the number of an activation.
     pub fn mark(&mut self) -> Result<Step, AllocError>
+        requires room { self.old.next + 1 < 2 ^ 64 }
         ensures does { (image : Image) → Did image instrs.Mark result self.old self.new }
         ensures later { IsLater self.old self.new }
     {
-        match self.next.checked_add(1) {
-            None => Err(AllocError),
-            Some(next) => {
-                self.next = next;
-                Ok(Step::On)
-            }
-        }
+        self.next += 1;
+        Ok(Step::On)
     }
 
     /// Puts the top into a local.
@@ -147,7 +155,7 @@ impl<'a> Machine<'a> {
             None => Ok(Step::Lacks),
             Some(Local::Unset) => Ok(Step::Lacks),
             Some(Local::Plain(_)) => Ok(Step::Lacks),
-            Some(Local::Cell(c)) => match self.cells.get(c as usize).copied() {
+            Some(Local::Cell(c)) => match self.cells.get(c).copied() {
                 None => Ok(Step::Lacks),
                 Some(word) => {
                     self.activations.push(word)?;
@@ -162,14 +170,11 @@ impl<'a> Machine<'a> {
         ensures does { (image : Image) → Did image (instrs.Cell x) result self.old self.new }
         ensures later { IsLater self.old self.new }
     {
-        let place = self.cells.len();
-        if place > u32::MAX as usize {
-            return Err(AllocError);
-        }
         match self.activations.pop() {
             None => Ok(Step::Lacks),
             Some(word) => {
-                if !self.activations.set_local(x, Local::Cell(place as u32)) {
+                let place = self.cells.len();
+                if !self.activations.set_local(x, Local::Cell(place)) {
                     return Ok(Step::Lacks);
                 }
                 self.cells.push(word)?;
@@ -190,10 +195,10 @@ impl<'a> Machine<'a> {
                 Some(Local::Unset) => Ok(Step::Lacks),
                 Some(Local::Plain(_)) => Ok(Step::Lacks),
                 Some(Local::Cell(c)) => {
-                    if c as usize >= self.cells.len() {
+                    if c >= self.cells.len() {
                         return Ok(Step::On);
                     }
-                    self.cells[c as usize] = word;
+                    self.cells[c] = word;
                     Ok(Step::On)
                 }
             },

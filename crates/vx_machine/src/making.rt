@@ -1,9 +1,10 @@
 //! The instruction that makes an object.
-ghost use Rattle.std.specs.Prelude.{◌≡◌, true, IfOk, length, map};
+ghost use Rattle.std.specs.Prelude.{◌≡◌, ℕ, true, IfOk, length, map};
 ghost use Rattle.vx_format.specs.declared.image.Instr.TheVariants as instrs;
 ghost use Rattle.vx_places.specs.ImageMachine.{fresh, start_value};
 ghost use Rattle.vx_machine.specs.Making.{filled_words, has_slots, slot_value};
 ghost use Rattle.vx_machine.specs.Meaning.{Did, IsLater, Texts, value_of};
+ghost use Rattle.vx_machine.specs.Sound.{AreSlotsSound, AreWordsSound, IsWordSound};
 
 use crate::machine::Machine;
 use crate::objects::place;
@@ -37,24 +38,22 @@ impl<'a> Machine<'a> {
             return Ok(Step::Finds);
         }
         let place = self.objects.len();
-        if place > u32::MAX as usize {
-            return Err(AllocError);
-        }
         self.objects.push(Object { class, slots })?;
         self.activations.forget(count);
-        self.activations.push(Word::Object(place as u32))?;
+        self.activations.push(Word::Object(place))?;
         Ok(Step::On)
     }
 }
 
 // What a slot holds at first.
 fn start<'a>(own: &Own, start: &'a Initial) -> Word<'a>
-    ensures { (texts : Texts) → value_of texts result ≡ start_value own.now start.entry.now }
+    ensures means { (texts : Texts) → value_of texts result ≡ start_value own.now start.entry.now }
+    ensures sound { (texts : ℕ) → IsWordSound texts result }
 {
     match start {
-        Initial::Nil => Word::Object(own.nil),
-        Initial::False => Word::Object(own.false_),
-        Initial::True => Word::Object(own.true_),
+        Initial::Nil => Word::Object(own.nil as usize),
+        Initial::False => Word::Object(own.false_ as usize),
+        Initial::True => Word::Object(own.true_ as usize),
         Initial::Int(z) => Word::Int(*z),
         Initial::Text(bytes) => Word::Constant(bytes.as_slice()),
     }
@@ -66,7 +65,8 @@ pub fn opened<'a>(
     own: &Own,
     shape: &'a [Slot],
 ) -> Result<Items<(u32, Word<'a>)>, AllocError>
-    ensures { IfOk result (λ slots. (texts : Texts) → map (slot_value texts) slots ≡ fresh own.now shape.entry.now) }
+    ensures means { IfOk result (λ slots. (texts : Texts) → map (slot_value texts) slots ≡ fresh own.now shape.entry.now) }
+    ensures sound { IfOk result (λ slots. (texts : ℕ) → AreSlotsSound texts slots) }
 {
     let mut slots = Items::new(alloc);
     for slot in shape {
@@ -80,6 +80,7 @@ fn fill<'a>(slots: &mut Items<(u32, Word<'a>)>, fields: &[u32], words: &[Word<'a
     requires { length words.now ≡ length fields.now }
     ensures has { result ≡ has_slots fields.now slots.old }
     ensures filled { result ≡ true → slots.new ≡ filled_words fields.now words.entry.now slots.old }
+    ensures sound { (texts : ℕ) → AreWordsSound texts words.entry.now → AreSlotsSound texts slots.old → AreSlotsSound texts slots.new }
 {
     for (i, field) in fields.iter().enumerate() {
         match place(slots.as_slice(), *field) {

@@ -69,7 +69,8 @@ impl<'a> Machine<'a> {
                 if !change(&mut self.objects, o, field, word) {
                     return Ok(Step::Finds);
                 }
-                self.activations.push(Word::Object(ready.image().own.nil))?;
+                self.activations
+                    .push(Word::Object(ready.image().own.nil as usize))?;
                 Ok(Step::On)
             }
             Some(Word::Int(_)) => Ok(Step::Finds),
@@ -81,10 +82,10 @@ impl<'a> Machine<'a> {
 }
 
 /// What the object of the number holds in a field.
-pub fn held<'a>(objects: &[Object<'a>], number: u32, field: u32) -> Option<Word<'a>>
+pub fn held<'a>(objects: &[Object<'a>], number: usize, field: u32) -> Option<Word<'a>>
     ensures { result ≡ held_at objects.entry.now number field }
 {
-    match objects.get(number as usize) {
+    match objects.get(number) {
         None => None,
         Some(object) => slot(object.slots.as_slice(), field),
     }
@@ -115,17 +116,16 @@ pub fn place(slots: &[(u32, Word<'_>)], field: u32) -> Option<usize>
 }
 
 // Puts a word into the first slot of a field. It answers whether there is such an object and slot.
-fn change<'a>(objects: &mut Vec<Object<'a>>, number: u32, field: u32, word: Word<'a>) -> bool
+fn change<'a>(objects: &mut Vec<Object<'a>>, number: usize, field: u32, word: Word<'a>) -> bool
     ensures { Changes result number field word.entry objects.old.items objects.new.items }
 {
-    let at = number as usize;
-    if at >= objects.len() {
+    if number >= objects.len() {
         return false;
     }
-    match place(objects[at].slots.as_slice(), field) {
+    match place(objects[number].slots.as_slice(), field) {
         None => false,
         Some(found) => {
-            put(&mut objects[at], found, field, word);
+            put(&mut objects[number], found, field, word);
             true
         }
     }

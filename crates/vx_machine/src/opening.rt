@@ -1,10 +1,12 @@
 //! How a run begins.
-ghost use Rattle.std.specs.Prelude.{◌≡◌, [], ◌<◌, IfOk, length};
+ghost use Rattle.std.specs.List.{AllByRecursion};
+ghost use Rattle.std.specs.Prelude.{◌≡◌, ℕ, [], ◌<◌, IfOk, length};
 ghost use Rattle.vx_format.specs.declared.image.Table.{Table};
 ghost use Rattle.vx_places.specs.ImageMachine.{goes_to, main_found, opening, placed};
 ghost use Rattle.vx_compilation.specs.Activations.{ToCode};
 ghost use Rattle.vx_machine.specs.Meaning.{Texts, things_of};
-ghost use Rattle.vx_machine.specs.Opening.{Begins};
+ghost use Rattle.vx_machine.specs.Opening.{Begins, IsBegunSound};
+ghost use Rattle.vx_machine.specs.Sound.{IsObjectSound};
 
 use crate::activations::Activations;
 use crate::making::opened;
@@ -37,7 +39,8 @@ pub fn objects<'a>(
     shapes: &'a [Items<Slot>],
 ) -> Result<Vec<Object<'a>>, AllocError>
     requires { length shapes.now < 4294967296 }
-    ensures { IfOk result (λ objects. (texts : Texts) → things_of texts objects.items ≡ placed own.now 0 shapes.entry.now) }
+    ensures means { IfOk result (λ objects. (texts : Texts) → things_of texts objects.items ≡ placed own.now 0 shapes.entry.now) }
+    ensures sound { IfOk result (λ objects. (texts : ℕ) → AllByRecursion (IsObjectSound texts) objects.items) }
 {
     let mut objects = Vec::new(alloc);
     for (i, shape) in shapes.iter().enumerate() {
@@ -57,7 +60,8 @@ pub fn begin<'a>(
     masks: &mut Vec<u128>,
 ) -> Result<Begun<'a>, AllocError>
     requires { (texts : Texts) → things_of texts objects.now ≡ (opening ready.now).objects }
-    ensures { IfOk result (λ begun. Begins ready.now (main_found ready.now) begun) }
+    ensures means { IfOk result (λ begun. Begins ready.now (main_found ready.now) begun) }
+    ensures sound { IfOk result (λ begun. IsBegunSound begun) }
 {
     let Some(t) = ready.image().main else {
         let name = name_of(alloc, b"main")?;
@@ -79,7 +83,8 @@ pub fn begin<'a>(
 
 // Does what a row says without arguments. All but a code without split wants at least one.
 fn begin_row<'a>(alloc: Global, ready: &Ready<'a>, deed: &Does) -> Result<Begun<'a>, AllocError>
-    ensures { IfOk result (λ begun. (table : Table) → Begins ready.now (goes_to ready.now (opening ready.now).objects table [] deed.now) begun) }
+    ensures means { IfOk result (λ begun. (table : Table) → Begins ready.now (goes_to ready.now (opening ready.now).objects table [] deed.now) begun) }
+    ensures sound { IfOk result (λ begun. IsBegunSound begun) }
 {
     match deed {
         Does::Code(code, None) => begin_code(alloc, ready, *code),
@@ -92,7 +97,8 @@ fn begin_row<'a>(alloc: Global, ready: &Ready<'a>, deed: &Does) -> Result<Begun<
 
 // Enters a code without arguments.
 fn begin_code<'a>(alloc: Global, ready: &Ready<'a>, code: u32) -> Result<Begun<'a>, AllocError>
-    ensures { IfOk result (λ begun. Begins ready.now (ToCode code) begun) }
+    ensures means { IfOk result (λ begun. Begins ready.now (ToCode code) begun) }
+    ensures sound { IfOk result (λ begun. IsBegunSound begun) }
 {
     ready.image();
     let Some(block) = ready.block(code, 0) else {

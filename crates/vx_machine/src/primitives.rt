@@ -1,5 +1,5 @@
 //! Primitives.
-ghost use Rattle.std.specs.Prelude.{◌≡◌, ◌≤◌, ◌+◌, [], ◌∷◌, Bool, IfOk, length, slice_get};
+ghost use Rattle.std.specs.Prelude.{◌≡◌, ℕ, ◌≤◌, ◌+◌, [], ◌∷◌, Bool, IfOk, length, slice_get};
 ghost use Rattle.std.specs.Option.{option_map};
 ghost use Rattle.vx_format.specs.declared.image.Image.{Image};
 ghost use Rattle.vx_model.specs.declared.value.Value.{Value};
@@ -9,7 +9,8 @@ ghost use Rattle.vx_places.specs.ImageMachine.{count_of, truth};
 ghost use Rattle.vx_format.specs.declared.image.Instr.TheVariants as instrs;
 ghost use Rattle.vx_machine.specs.Meaning.{Did, IsLater, Reached, Texts, value_of};
 ghost use Rattle.vx_machine.specs.Cuts.{Extends};
-ghost use Rattle.vx_machine.specs.Deeds.{Answers, Performs, bytes_of, closure_of, deed_of, joins, printed, same_plain, two_of};
+ghost use Rattle.vx_machine.specs.Sound.{IsWordSound};
+ghost use Rattle.vx_machine.specs.Deeds.{Answers, IsAnswerSound, Performs, bytes_of, closure_of, deed_of, joins, printed, same_plain, two_of};
 
 use crate::machine::Machine;
 use crate::ready::Ready;
@@ -55,7 +56,7 @@ impl<'a> Machine<'a> {
         let Some(a) = self.activations.pop() else {
             return Ok(Step::Lacks);
         };
-        match answer_of(ready, self.texts.as_slice(), number, a, b)? {
+        match answer_of(ready, self.texts.as_slice(), number, a, b) {
             Answer::Word(word) => {
                 self.activations.push(word)?;
                 Ok(Step::On)
@@ -80,7 +81,8 @@ impl<'a> Machine<'a> {
             None => Ok(Step::Finds),
             Some(line) => {
                 self.lines.push(line)?;
-                self.activations.push(Word::Object(ready.image().own.nil))?;
+                self.activations
+                    .push(Word::Object(ready.image().own.nil as usize))?;
                 Ok(Step::On)
             }
         }
@@ -133,11 +135,8 @@ impl<'a> Machine<'a> {
             Joined::TooLong => Ok(Step::Stops(RunError::StringLimit)),
             Joined::Text(bytes) => {
                 let place = self.texts.len();
-                if place > u32::MAX as usize {
-                    return Err(AllocError);
-                }
                 self.texts.push(bytes)?;
-                self.activations.push(Word::Text(place as u32))?;
+                self.activations.push(Word::Text(place))?;
                 Ok(Step::On)
             }
         }
@@ -233,40 +232,43 @@ fn answer_of<'a>(
     number: u8,
     a: Word<'a>,
     b: Word<'a>,
-) -> Result<Answer<'a>, AllocError>
+) -> Answer<'a>
     requires number { number ≤ 9 }
     requires other { number ≡ 8 → ⊥ }
-    ensures { IfOk result (λ answer. Answers texts.now (performed (truth ready.now.own) number) a.entry b.entry answer) }
+    requires first { IsWordSound (length texts.now) a }
+    requires second { IsWordSound (length texts.now) b }
+    ensures is { Answers texts.now (performed (truth ready.now.own) number) a.entry b.entry result }
+    ensures sound { IsAnswerSound result }
 {
     match number {
         7 => same_string(ready, texts, a, b),
-        9 => Ok(Answer::Word(truth(ready, same_value(texts, a, b)?))),
-        _ => Ok(number_of(ready, number, a, b)),
+        9 => Answer::Word(truth(ready, same_value(texts, a, b))),
+        _ => number_of(ready, number, a, b),
     }
 }
 
 // Whether two strings have the same bytes.
-fn same_string<'a>(
-    ready: &Ready<'a>,
-    texts: &[Items<u8>],
-    a: Word<'a>,
-    b: Word<'a>,
-) -> Result<Answer<'a>, AllocError>
-    ensures { IfOk result (λ answer. Answers texts.now (performed (truth ready.now.own) 7) a.entry b.entry answer) }
+fn same_string<'a>(ready: &Ready<'a>, texts: &[Items<u8>], a: Word<'a>, b: Word<'a>) -> Answer<'a>
+    requires first { IsWordSound (length texts.now) a }
+    requires second { IsWordSound (length texts.now) b }
+    ensures is { Answers texts.now (performed (truth ready.now.own) 7) a.entry b.entry result }
+    ensures sound { IsAnswerSound result }
 {
-    match two_strings(texts, a, b)? {
-        Some((a, b)) => Ok(Answer::Word(truth(ready, a == b))),
-        None => Ok(Answer::Finds),
+    match two_strings(texts, a, b) {
+        Some((a, b)) => Answer::Word(truth(ready, a == b)),
+        None => Answer::Finds,
     }
 }
 
 // Whether two words are the same number, the same bytes, the same closure or the same object.
-fn same_value<'a>(texts: &[Items<u8>], a: Word<'a>, b: Word<'a>) -> Result<bool, AllocError>
-    ensures { IfOk result (λ same. (all : Texts) → Extends texts.now all → same ≡ same_value (value_of all a.entry) (value_of all b.entry)) }
+fn same_value<'a>(texts: &[Items<u8>], a: Word<'a>, b: Word<'a>) -> bool
+    requires first { IsWordSound (length texts.now) a }
+    requires second { IsWordSound (length texts.now) b }
+    ensures { (all : Texts) → Extends texts.now all → result ≡ same_value (value_of all a.entry) (value_of all b.entry) }
 {
-    match two_strings(texts, a, b)? {
-        Some((a, b)) => Ok(a == b),
-        None => Ok(same_plain(a, b)),
+    match two_strings(texts, a, b) {
+        Some((a, b)) => a == b,
+        None => same_plain(a, b),
     }
 }
 
@@ -283,38 +285,34 @@ fn same_plain(a: Word<'_>, b: Word<'_>) -> bool
 }
 
 // The bytes of two strings.
-fn two_strings<'b>(
-    texts: &'b [Items<u8>],
-    a: Word<'b>,
-    b: Word<'b>,
-) -> Result<Option<(&'b [u8], &'b [u8])>, AllocError>
-    ensures { IfOk result (λ two. (all : Texts) → Extends texts.entry.now all
-        → option_map (λ ab. (ab.0.now, ab.1.now)) two ≡ two_strings (two_of all a.entry b.entry)) }
+fn two_strings<'b>(texts: &'b [Items<u8>], a: Word<'b>, b: Word<'b>) -> Option<(&'b [u8], &'b [u8])>
+    requires first { IsWordSound (length texts.now) a }
+    requires second { IsWordSound (length texts.now) b }
+    ensures { (all : Texts) → Extends texts.entry.now all
+        → option_map (λ ab. (ab.0.now, ab.1.now)) result ≡ two_strings (two_of all a.entry b.entry) }
 {
-    match (bytes_of(texts, a)?, bytes_of(texts, b)?) {
-        (Some(a), Some(b)) => Ok(Some((a, b))),
-        _ => Ok(None),
+    match (bytes_of(texts, a), bytes_of(texts, b)) {
+        (Some(a), Some(b)) => Some((a, b)),
+        _ => None,
     }
 }
 
 // The bytes of a string.
-fn bytes_of<'b>(texts: &'b [Items<u8>], word: Word<'b>) -> Result<Option<&'b [u8]>, AllocError>
-    ensures { IfOk result (λ found. (all : Texts) → Extends texts.entry.now all → option_map (λ b. b.now) found ≡ bytes_of (value_of all word.entry)) }
+fn bytes_of<'b>(texts: &'b [Items<u8>], word: Word<'b>) -> Option<&'b [u8]>
+    requires { IsWordSound (length texts.now) word }
+    ensures { (all : Texts) → Extends texts.entry.now all → option_map (λ b. b.now) result ≡ bytes_of (value_of all word.entry) }
 {
     match word {
-        Word::Constant(bytes) => Ok(Some(bytes)),
-        Word::Text(place) => match texts.get(place as usize) {
-            None => Err(AllocError),
-            Some(bytes) => Ok(Some(bytes.as_slice())),
-        },
-        Word::Int(_) => Ok(None),
-        Word::Closure(_) => Ok(None),
-        Word::Object(_) => Ok(None),
+        Word::Constant(bytes) => Some(bytes),
+        Word::Text(place) => Some(texts[place].as_slice()),
+        Word::Int(_) => None,
+        Word::Closure(_) => None,
+        Word::Object(_) => None,
     }
 }
 
 // The closure that a word is.
-fn closure_of(word: Word<'_>) -> Option<u32>
+fn closure_of(word: Word<'_>) -> Option<usize>
     ensures { result ≡ closure_of word.entry }
 {
     match word {
@@ -326,7 +324,8 @@ fn closure_of(word: Word<'_>) -> Option<u32>
 // What a primitive of two numbers makes of two words.
 fn number_of<'a>(ready: &Ready<'a>, number: u8, a: Word<'a>, b: Word<'a>) -> Answer<'a>
     requires { number ≤ 6 }
-    ensures { (texts : Texts) → deed_of texts result ≡ performed (truth ready.now.own) number (two_of texts a.entry b.entry) }
+    ensures sound { IsAnswerSound result }
+    ensures is { (texts : Texts) → deed_of texts result ≡ performed (truth ready.now.own) number (two_of texts a.entry b.entry) }
 {
     let Some((a, b)) = two_numbers(a, b) else {
         return Answer::Finds;
@@ -351,13 +350,14 @@ fn line_of(
 ) -> Result<Option<Items<u8>>, AllocError>
     requires from { 10 ≤ number }
     requires upto { number ≤ 11 }
+    requires sound { IsWordSound (length texts.now) word }
     ensures { IfOk result (λ line. (all : Texts) (truths : Bool → Value) → Extends texts.now all
         → printed line ≡ performed truths number (value_of all word.entry ∷ [])) }
 {
     if number == 10 {
         return number_line(alloc, word);
     }
-    match bytes_of(texts, word)? {
+    match bytes_of(texts, word) {
         None => Ok(None),
         Some(bytes) => Ok(Some(Items::from_slice(alloc, bytes)?)),
     }
@@ -384,10 +384,12 @@ fn join_of(
     a: Word<'_>,
     b: Word<'_>,
 ) -> Result<Joined, AllocError>
+    requires first { IsWordSound (length texts.now) a }
+    requires second { IsWordSound (length texts.now) b }
     ensures { IfOk result (λ what. (all : Texts) (truths : Bool → Value) → Extends texts.now all
         → joins what ≡ performed truths 8 (two_of all a.entry b.entry)) }
 {
-    match two_strings(texts, a, b)? {
+    match two_strings(texts, a, b) {
         None => Ok(Joined::Finds),
         Some((a, b)) => appended(alloc, a, b),
     }
@@ -417,7 +419,8 @@ fn two_numbers(a: Word<'_>, b: Word<'_>) -> Option<(i128, i128)>
 
 // What comes of a number, or of why there is none.
 fn numbered<'a>(number: Result<i128, NoNumber>) -> Answer<'a>
-    ensures { (texts : Texts) → deed_of texts result ≡ numbered number }
+    ensures sound { IsAnswerSound result }
+    ensures is { (texts : Texts) → deed_of texts result ≡ numbered number }
 {
     match number {
         Ok(n) => Answer::Word(Word::Int(n)),
@@ -428,12 +431,13 @@ fn numbered<'a>(number: Result<i128, NoNumber>) -> Answer<'a>
 
 // The object that a truth value is.
 fn truth<'a>(ready: &Ready<'a>, holds: bool) -> Word<'a>
-    ensures { (texts : Texts) → value_of texts result ≡ truth ready.now.own holds }
+    ensures sound { (texts : ℕ) → IsWordSound texts result }
+    ensures is { (texts : Texts) → value_of texts result ≡ truth ready.now.own holds }
 {
     let own = &ready.image().own;
     if holds {
-        Word::Object(own.true_)
+        Word::Object(own.true_ as usize)
     } else {
-        Word::Object(own.false_)
+        Word::Object(own.false_ as usize)
     }
 }

@@ -1,5 +1,5 @@
 //! Runs of images.
-ghost use Rattle.std.specs.Prelude.{◌≡◌, ◌<◌, IfOk};
+ghost use Rattle.std.specs.Prelude.{◌≡◌, ◌<◌, ◌+◌, ◌^◌, IfOk};
 ghost use Rattle.vx_model.specs.declared.report.Report.TheVariants as r;
 ghost use Rattle.vx_places.specs.ImageMachine.{report_of};
 ghost use Rattle.vx_places.specs.Reports.{report};
@@ -31,6 +31,7 @@ pub enum Ending {
 impl<'a> Machine<'a> {
     // Does at most so many instructions. Whether the state lacks something is looked at before it is said to be unfinished.
     fn go(&mut self, alloc: Global, ready: &Ready<'a>, n: u32) -> Result<Ending, AllocError>
+        requires { self.old.next + n + 1 < 2 ^ 64 }
         ensures { Ends ready.now n result self.old self.new }
     {
         for done in 0..n {
@@ -54,6 +55,7 @@ impl<'a> Machine<'a> {
 
     // Looks whether the state lacks something, where no instruction is left to be done.
     fn look(&mut self, alloc: Global, ready: &Ready<'a>) -> Result<Ending, AllocError>
+        requires { self.old.next + 1 < 2 ^ 64 }
         ensures { Ends ready.now 0 result self.old self.new }
     {
         let count = self.lines.len();

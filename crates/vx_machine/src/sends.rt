@@ -1,5 +1,5 @@
 //! Sends: what a row leads to, and what is wrong where no row is found.
-ghost use Rattle.std.specs.Prelude.{◌≡◌, ◌<◌, ◌≤◌, IfOk, IfSome, Some, length, slice_get};
+ghost use Rattle.std.specs.Prelude.{◌≡◌, ◌<◌, ◌≤◌, ◌+◌, ◌^◌, IfOk, IfSome, Some, length, slice_get};
 ghost use Rattle.vx_format.specs.declared.image.Does.TheVariants as deeds;
 ghost use Rattle.vx_format.specs.declared.image.Image.{Image};
 ghost use Rattle.vx_format.specs.declared.image.Instr.TheVariants as instrs;
@@ -56,6 +56,7 @@ impl<'a> Machine<'a> {
 
     /// Sends a message to a table. A primitive is left to be performed.
     pub fn send(&mut self, alloc: Global, ready: &Ready<'a>, t: u32) -> Result<Led, AllocError>
+        requires room { self.old.next + 1 < 2 ^ 64 }
         ensures does { Acts ready.now (instrs.Send t) (arity_of ready.now t) result self.old self.new }
         ensures later { IsLater self.old self.new }
     {
@@ -76,6 +77,7 @@ impl<'a> Machine<'a> {
         t: u32,
         row: u8,
     ) -> Result<Led, AllocError>
+        requires room { self.old.next + 1 < 2 ^ 64 }
         ensures does { Acts ready.now (instrs.Resend t row) (arity_of ready.now t) result self.old self.new }
         ensures later { IsLater self.old self.new }
     {
@@ -98,6 +100,7 @@ impl<'a> Machine<'a> {
         ready: &Ready<'a>,
         t: u32,
     ) -> Result<Step, AllocError>
+        requires room { self.old.next + 1 < 2 ^ 64 }
         ensures does { Did ready.now (instrs.Send t) result self.old self.new }
         ensures later { IsLater self.old self.new }
     {
@@ -115,6 +118,7 @@ impl<'a> Machine<'a> {
         t: u32,
         row: u8,
     ) -> Result<Step, AllocError>
+        requires room { self.old.next + 1 < 2 ^ 64 }
         ensures does { Did ready.now (instrs.Resend t row) result self.old self.new }
         ensures later { IsLater self.old self.new }
     {
@@ -137,6 +141,7 @@ impl<'a> Machine<'a> {
         requires row { IfSome below (λ row. row < length table.now.rows) }
         requires enough { table.now.arity ≤ length self.old.stacked.running.operands }
         requires name { IsName table.now.name }
+        requires room { self.old.next + 1 < 2 ^ 64 }
         ensures does { Leads ready.now (sent_of ready.now table.now below self.old) table.now.arity result self.old self.new }
         ensures later { IsLater self.old self.new }
     {
@@ -162,6 +167,7 @@ impl<'a> Machine<'a> {
     ) -> Result<Led, AllocError>
         requires enough { count ≤ length self.old.stacked.running.operands }
         requires name { IsName table.now.name }
+        requires room { self.old.next + 1 < 2 ^ 64 }
         ensures does { Leads ready.now (λ all. target_of ready.now table.now deed.now all count self.old) count result self.old self.new }
         ensures later { IsLater self.old self.new }
     {
@@ -199,7 +205,8 @@ impl<'a> Machine<'a> {
         split: &Split,
         count: usize,
     ) -> Result<Step, AllocError>
-        requires { count ≤ length self.old.stacked.running.operands }
+        requires enough { count ≤ length self.old.stacked.running.operands }
+        requires room { self.old.next + 1 < 2 ^ 64 }
         ensures does { (table : Table) → Goes ready.now table (deeds.Code code (Some split.now)) count result self.old self.new }
         ensures later { IsLater self.old self.new }
     {

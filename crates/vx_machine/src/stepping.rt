@@ -1,4 +1,5 @@
 //! The next instruction.
+ghost use Rattle.std.specs.Prelude.{◌<◌, ◌+◌, ◌^◌};
 ghost use Rattle.vx_machine.specs.Cuts.{IsNamed};
 ghost use Rattle.vx_machine.specs.Meaning.{Did, IsLater};
 ghost use Rattle.vx_machine.specs.Running.{Steps};
@@ -12,6 +13,7 @@ use vx_format::Instr;
 impl<'a> Machine<'a> {
     /// Takes and does the next instruction. Where none is left, the state lacks it.
     pub fn step(&mut self, alloc: Global, ready: &Ready<'a>) -> Result<Step, AllocError>
+        requires room { self.old.next + 1 < 2 ^ 64 }
         ensures does { Steps ready.now result self.old self.new }
         ensures later { IsLater self.old self.new }
     {
@@ -28,7 +30,8 @@ impl<'a> Machine<'a> {
         ready: &Ready<'a>,
         instr: &'a Instr,
     ) -> Result<Step, AllocError>
-        requires { IsNamed instr.now }
+        requires named { IsNamed instr.now }
+        requires room { self.old.next + 1 < 2 ^ 64 }
         ensures does { Did ready.now instr.entry.now result self.old self.new }
         ensures later { IsLater self.old self.new }
     {

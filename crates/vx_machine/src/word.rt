@@ -11,11 +11,11 @@ pub enum Word<'a> {
     /// A string of the image.
     Constant(&'a [u8]),
     /// A string that was made, by its place among these.
-    Text(u32),
+    Text(usize),
     /// A closure, by its place.
-    Closure(u32),
+    Closure(usize),
     /// An object, by its place.
-    Object(u32),
+    Object(usize),
 }
 
 /// What a local holds.
@@ -26,7 +26,7 @@ pub enum Local<'a> {
     /// A value.
     Plain(Word<'a>),
     /// A cell, by its place.
-    Cell(u32),
+    Cell(usize),
 }
 
 /// A closure: its code and block, its home activation, and where among all that closures captured its own part begins and how long it is.

@@ -1,6 +1,6 @@
-use Rattle.std.proofs.Common.{◌≡◌, ◌∙◌, ◌<◌, get_or, length, Some, None, sym}
+use Rattle.std.proofs.Common.{◌≡◌, ◌∙◌, get_or, Some, None, sym}
 use Rattle.vx_machine.specs.Slots.{place_from}
-use Rattle.vx_machine.proofs.Makes.{Turn, has_not, turn_filled, turn_has, turn_within}
+use Rattle.vx_machine.proofs.Makes.{Turn, has_not, turn_filled, turn_has, turn_sound, turn_within}
 use Rattle.vx_machine.proofs.making.fill.Goals as goal
 
 pub returns-in-None-clause-has : goal.returns-in-None-clause-has
@@ -22,4 +22,6 @@ loop-i-preserved c =
     rw c.set.ensures (
       turn_has c.args.fields.now c.args.words.now c.loop-i.slots c.loop-i.i c.in-Some.found turn ∙ c.loop-i.invariant.0,
       turn_filled c.args.fields.now c.args.words.now c.loop-i.slots c.loop-i.i c.in-Some.found turn ∙ c.loop-i.invariant.1,
+      λ texts words old. turn_sound texts c.args.fields.now c.args.words.now c.loop-i.slots c.loop-i.i c.in-Some.found turn words
+          (c.loop-i.invariant.2 texts words old),
     )

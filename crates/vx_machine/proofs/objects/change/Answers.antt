@@ -1,4 +1,4 @@
-use Rattle.std.proofs.Common.{sym, ◌≡◌, ◌<◌, ◌∙◌, ap, length, vec_len, Some, arith, rules}
+use Rattle.std.proofs.Common.{refl, sym, ◌≡◌, ◌<◌, ◌∙◌, ap, length, vec_len, Some, arith, rules}
 use Rattle.std.specs.Prelude.{slice_get}
 use Rattle.std.proofs.lemmas.Option.{slice_get-get_or}
 use Rattle.vx_machine.specs.declared.word.Object.{Object}
@@ -9,7 +9,7 @@ use Rattle.vx_machine.proofs.objects.change.Goals as goal
 pub put-requires : goal.put-requires
 put-requires c =
     let sizes : vec_len c.args.objects.now ≡ length c.args.objects.now.items = search rules in
-    let lt : c.args.number < length c.args.objects.now.items = omega (arith, c.if-at-len.false, c.len.ensures, sizes) in
+    let lt : c.args.number < length c.args.objects.now.items = omega (arith, c.if-number-len.false, c.len.ensures, sizes) in
     let read : slice_get c.args.objects.now.items c.args.number ≡ Some c.index.result.now =
     slice_get-get_or c.args.objects.now.items c.args.number c.index.result.now lt ∙ ap (λ (o : Object). Some o) (sym c.index.ensures) in
     let lent : slice_get c.args.objects.now.items c.args.number ≡ Some c.index_mut.result.now =
@@ -23,16 +23,18 @@ put-requires c =
 pub returns-in-None : goal.returns-in-None
 returns-in-None c =
     let sizes : vec_len c.args.objects.now ≡ length c.args.objects.now.items = search rules in
-    let lt : c.args.number < length c.args.objects.now.items = omega (arith, c.if-at-len.false, c.len.ensures, sizes) in
+    let lt : c.args.number < length c.args.objects.now.items = omega (arith, c.if-number-len.false, c.len.ensures, sizes) in
     let read : slice_get c.args.objects.now.items c.args.number ≡ Some c.index.result.now =
-    slice_get-get_or c.args.objects.now.items c.args.number c.index.result.now lt ∙ ap (λ (o : Object). Some o) (sym c.index.ensures) in
-    not_held c.args.objects.now.items c.args.number c.args.field c.index.result.now read
-    (no_place c.args.field 0 c.index.result.now.slots (rw c.as_slice.ensures at (sym c.in-None.ensures)))
+    slice_get-get_or c.args.objects.now.items c.args.number c.index.result.now lt ∙ ap (λ (o : Object). Some o) (sym c.index.ensures) in (
+      not_held c.args.objects.now.items c.args.number c.args.field c.index.result.now read
+          (no_place c.args.field 0 c.index.result.now.slots (rw c.as_slice.ensures at (sym c.in-None.ensures))),
+      refl,
+    )
 
 pub returns-in-Some : goal.returns-in-Some
 returns-in-Some c =
     let sizes : vec_len c.args.objects.now ≡ length c.args.objects.now.items = search rules in
-    let lt : c.args.number < length c.args.objects.now.items = omega (arith, c.if-at-len.false, c.len.ensures, sizes) in
+    let lt : c.args.number < length c.args.objects.now.items = omega (arith, c.if-number-len.false, c.len.ensures, sizes) in
     let read : slice_get c.args.objects.now.items c.args.number ≡ Some c.index.result.now =
     slice_get-get_or c.args.objects.now.items c.args.number c.index.result.now lt ∙ ap (λ (o : Object). Some o) (sym c.index.ensures) in
     let lent : slice_get c.args.objects.now.items c.args.number ≡ Some c.index_mut.result.now =

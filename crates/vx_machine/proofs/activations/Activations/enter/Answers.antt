@@ -4,8 +4,8 @@ use Rattle.vx_machine.specs.Cuts.{opened}
 use Rattle.vx_machine.proofs.Stack.{enters}
 use Rattle.vx_machine.proofs.activations.Activations.enter.Goals as goal
 
-pub returns-in-Ok : goal.returns-in-Ok
-returns-in-Ok c =
+pub returns-in-Ok-clause-ok : goal.returns-in-Ok-clause-ok
+returns-in-Ok-clause-ok c =
     let sizes : vec_len c.self.inside.operands ≡ length c.self.inside.operands.items = search rules in
     let count : c.len.result ≡ length c.self.inside.operands.items = search rules in
     let base : c.len-base.result ≡ length c.self.inside.locals.items = search rules in

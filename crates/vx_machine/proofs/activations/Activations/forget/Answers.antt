@@ -1,4 +1,4 @@
-use Rattle.std.proofs.Common.{rules, arith, ◌≡◌, ◌≤◌, ◌-◌, length, length-drop, vec_len, reverse, drop, take}
+use Rattle.std.proofs.Common.{rules, arith, ◌≡◌, ◌≤◌, ◌-◌, length, length-drop, reverse, drop, take}
 use Rattle.std.proofs.lemmas.List.{length-reverse}
 use Rattle.vx_machine.proofs.Stack.{forgets}
 use Rattle.vx_machine.proofs.activations.Activations.forget.Goals as goal

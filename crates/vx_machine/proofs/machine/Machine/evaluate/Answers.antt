@@ -5,18 +5,34 @@ use Rattle.vx_machine.specs.Meaning.{slot_of}
 use Rattle.vx_machine.proofs.Closing.{evaluate_done}
 use Rattle.vx_machine.proofs.Stack.{part_stays}
 use Rattle.vx_machine.proofs.Views.{kept_of}
+use Rattle.vx_lists.proofs.Each.{all_at}
+use Rattle.vx_machine.specs.Sound.{IsHeldSound}
+use Rattle.vx_machine.proofs.Sound.{enters, part_is}
+use Rattle.vx_machine.specs.declared.word.Role.TheVariants as roles
 use Rattle.vx_machine.proofs.machine.Machine.evaluate.Goals as goal
 
 pub returns-clause-does : goal.returns-clause-does
 returns-clause-does c = λ all covers.
     let at : slice_get c.self.inside.closures.items c.args.closure ≡ Some c.in-Some.held = rw (← c.self.view_is) at (sym c.in-Some.ensures) in
+    let within = all_at (IsHeldSound (length c.self.inside.captured.items)) c.self.inside.closures.items c.args.closure c.in-Some.held at
+    c.self.invariant.1.of_closures in
     let there : block_at c.args.ready.now c.in-Some.held.code c.in-Some.held.block ≡ Some c.in-Some-block.block.now = sym c.in-Some-block.ensures in
     let same : c.in-Some-block.block.now.formals ≡ c.args.count = omega arith in
     let enough : c.args.count + 1 ≤ length c.self.inside.activations.running.operands = rw (← c.self.view_is) at c.requires in
-    rw (← c.self.view_is, c.in_ok-enter.ensures)
+    rw (← c.self.view_is, c.in_ok-enter.ensures.ok)
     (evaluate_done c.args.ready.now all
-    (kept_of c.self.inside) c.args.closure c.args.count c.in-Some.held c.in-Some-block.block.now c.in-Some-part.captures.now at there same
+    (kept_of c.self.inside) c.args.closure c.args.count c.in-Some.held c.in-Some-block.block.now c.part-captures.result.now at there same
     (omega (arith, enough))
     (ap (map (slot_of all.texts))
-    (part_stays c.self.inside.captured.items all.captured c.in-Some-part.captures.now c.in-Some.held.first c.in-Some.held.count covers.1
-    (rw c.as_slice.ensures.value at c.in-Some-part.ensures.0) (rw c.as_slice.ensures.value at c.in-Some-part.ensures.1))))
+    (part_stays c.self.inside.captured.items all.captured c.part-captures.result.now c.in-Some.held.first c.in-Some.held.count covers.1 within
+    (rw c.as_slice.ensures.value at c.part-captures.ensures))))
+
+pub invariant_of-self-2 : goal.invariant_of-self-2
+invariant_of-self-2 c =
+    let caught = part_is (length c.self.inside.texts) c.self.inside.captured.items c.part-captures.result.now c.in-Some.held.first c.in-Some.held.count
+    (rw c.as_slice.ensures.value at c.part-captures.ensures) c.self.invariant.1.of_captured in (
+      rw c.in_ok-enter.ensures.ok (enters (length c.self.inside.texts) (length c.self.inside.captured.items) c.in-Some.held.code c.in-Some-block.block.now
+          c.part-captures.result.now c.args.count 1
+          (roles.Evaluation c.in-Some.held.home) c.self.inside.activations c.self.invariant.0 caught tt),
+      c.self.invariant.1,
+    )

@@ -11,6 +11,7 @@ use Rattle.vx_machine.specs.Deeds.{two_of}
 use Rattle.vx_machine.proofs.Closing.{extends_more}
 use Rattle.vx_machine.proofs.Deeds.{text_added, two_deed}
 use Rattle.vx_machine.proofs.Views.{kept_of}
+use Rattle.vx_machine.proofs.Sound.{pops, pushes, text_is, with_text}
 use Rattle.vx_machine.proofs.machine.Machine.join.Goals as goal
 
 pub returns-in_err-push-in-Text-2-clause-later : goal.returns-in_err-push-in-Text-2-clause-later
@@ -53,3 +54,24 @@ returns-in_ok-push-in-Text-2-clause-does c = λ image all covers.
     (two_deed image (performed (truth image.own) 8) all (kept_of c.self.inside) c.args.self.now c.pop-2.new.self c.in-Some-pop.a c.in-Some.b
     (deeds.Answers (v.Text (get_or all.texts (length c.self.inside.texts) []))) c.self.view_is old
     (ap (λ (bytes : Bytes). deeds.Answers (v.Text bytes)) added ∙ what))
+
+pub invariant_of-self-in_err-push-in-Text-2 : goal.invariant_of-self-in_err-push-in-Text-2
+invariant_of-self-in_err-push-in-Text-2 c =
+    let one = pops (length c.self.inside.texts) (length c.self.inside.captured.items) c.in-Some.b c.self.inside.activations c.pop.new.self c.in-Some.ensures
+    c.self.invariant.0 in
+    let two = pops (length c.self.inside.texts) (length c.self.inside.captured.items) c.in-Some-pop.a c.pop.new.self c.pop-2.new.self c.in-Some-pop.ensures
+    one.0 in
+    let made = with_text (record (kept_of c.self.inside) { stacked = c.pop-2.new.self }) c.push.new.self c.in-Text.bytes c.in_ok-push-in-Text.ensures.ok
+    (two.0, c.self.invariant.1) in
+    rw c.in_err-push-in-Text-2.ensures.err made
+
+pub invariant_of-self-in-Text : goal.invariant_of-self-in-Text
+invariant_of-self-in-Text c =
+    let one = pops (length c.self.inside.texts) (length c.self.inside.captured.items) c.in-Some.b c.self.inside.activations c.pop.new.self c.in-Some.ensures
+    c.self.invariant.0 in
+    let two = pops (length c.self.inside.texts) (length c.self.inside.captured.items) c.in-Some-pop.a c.pop.new.self c.pop-2.new.self c.in-Some-pop.ensures
+    one.0 in
+    let made = with_text (record (kept_of c.self.inside) { stacked = c.pop-2.new.self }) c.push.new.self c.in-Text.bytes c.in_ok-push-in-Text.ensures.ok
+    (two.0, c.self.invariant.1) in
+    rw (c.in_ok-push-in-Text-2.ensures.ok, c.len-place.ensures)
+    (pushes _ _ _ c.pop-2.new.self made.0 (text_is c.self.inside.texts c.push.new.self c.in-Text.bytes c.in_ok-push-in-Text.ensures.ok), made.1)

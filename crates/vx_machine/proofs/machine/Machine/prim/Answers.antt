@@ -1,4 +1,4 @@
-use Rattle.std.proofs.Common.{◌≡◌, ◌≤◌, ℕ, length, subst, arith}
+use Rattle.std.proofs.Common.{ℕ, subst, arith}
 use Rattle.vx_format.specs.declared.image.Instr.TheVariants as instrs
 use Rattle.vx_compilation.specs.Activations.{ToPrimitive}
 use Rattle.vx_places.specs.ImageMachine.{count_of}

@@ -9,7 +9,7 @@ use Rattle.vx_machine.proofs.machine.Machine.turn.Goals as goal
 pub returns-clause-does : goal.returns-clause-does
 returns-clause-does c = λ all covers.
     let at : block_at c.args.ready.now c.args.held.code c.args.held.block ≡ Some c.in-Some.block.now = sym c.in-Some.ensures in
-    rw (← c.self.view_is, c.in_ok-restart.ensures) (turned c.args.ready.now all
-    (kept_of c.self.inside) c.args.held c.in-Some.block.now c.in-Some-part.captures.now at
-    (ap (map (slot_of all.texts)) (part_stays c.self.inside.captured.items all.captured c.in-Some-part.captures.now c.args.held.first c.args.held.count covers.1
-    (rw c.as_slice.ensures.value at c.in-Some-part.ensures.0) (rw c.as_slice.ensures.value at c.in-Some-part.ensures.1))))
+    rw (← c.self.view_is, c.in_ok-restart.ensures.ok) (turned c.args.ready.now all
+    (kept_of c.self.inside) c.args.held c.in-Some.block.now c.part-captures.result.now at
+    (ap (map (slot_of all.texts)) (part_stays c.self.inside.captured.items all.captured c.part-captures.result.now c.args.held.first c.args.held.count covers.1
+    (rw (← c.self.view_is) at c.requires) (rw c.as_slice.ensures.value at c.part-captures.ensures))))

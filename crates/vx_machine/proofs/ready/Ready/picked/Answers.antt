@@ -1,4 +1,4 @@
-use Rattle.std.proofs.Common.{sym, ap, ◌∙◌, ◌≡◌, ℕ, List, map}
+use Rattle.std.proofs.Common.{ap, ◌∙◌, ℕ, List, map}
 use Rattle.std.proofs.lemmas.Option.{get_or_from_slice_get}
 use Rattle.vx_tables.specs.Masks.{picked}
 use Rattle.vx_format.specs.declared.image.Position.{Position}
