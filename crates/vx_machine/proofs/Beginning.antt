@@ -24,7 +24,8 @@ use Rattle.vx_format.specs.declared.image.Image.{Image}
 use Rattle.vx_compilation.specs.Activations.{Target, ToCode, ToError, ToNothing, ToPrimitive}
 use Rattle.vx_compilation.specs.Machine.{Lacks, performs}
 use Rattle.vx_places.specs.Dispatch.{Placed, clone_for, dispatched}
-use Rattle.vx_places.specs.ImageMachine.{To, block_at, by_place, class_at, codes_of, dispatch, fresh, goes_to, main_found, opening, placed, sent, target, truth, world}
+use Rattle.vx_places.specs.ImageMachine.{To, block_at, by_place, class_at, codes_of, dispatch, fresh, goes_to, main_found, opening}
+use Rattle.vx_places.specs.ImageMachine.{placed, sent, target, truth, world}
 use Rattle.vx_machine.specs.declared.opening.Begun.{Begun}
 use Rattle.vx_machine.specs.declared.opening.Begun.TheVariants as begun
 use Rattle.vx_machine.specs.declared.word.Object.{Object}

@@ -11,9 +11,11 @@ use Rattle.vx_format.specs.declared.image.Image.{Image}
 use Rattle.vx_compilation.specs.Activations.{Symbols, Slot, Unset, Plain, Cell, Closed, State, World, Making, Makes, NoSlot, NoClass, Target, ToCode}
 use Rattle.vx_compilation.specs.Activations.{ToPrimitive, ToGetter, ToSetter, ToError, ToNothing, captured, stored, with_line}
 use Rattle.vx_compilation.specs.Machine as machine
-use Rattle.vx_compilation.specs.Machine.{Instruction, Block, Codes, Role, Frame, Machine, Stepped, On, Over, Stops, Finds, Lacks, act, going, below, unwound, popped}
+use Rattle.vx_compilation.specs.Machine.{Instruction, Block, Codes, Role, Frame, Machine, Stepped, On, Over, Stops, Finds, Lacks}
+use Rattle.vx_compilation.specs.Machine.{act, going, below, unwound, popped}
 use Rattle.vx_compilation.specs.Machine.{if_top, if_popped, if_there, if_plain, if_cell, if_fits, enters, evaluates, evaluates_block, repeats, repeats_block}
-use Rattle.vx_compilation.specs.Machine.{does, performs, gives, gets, puts, sets, of_object, gets_of, sets_of, reaches, turns, leaves, makes, taking, waiting, closes}
+use Rattle.vx_compilation.specs.Machine.{does, performs, gives, gets, puts, sets, of_object, gets_of, sets_of, reaches, turns, leaves}
+use Rattle.vx_compilation.specs.Machine.{makes, taking, waiting, closes}
 use Rattle.vx_places.specs.ImageMachine.{codes_of, world}
 use Rattle.vx_machine.specs.Meaning.{Kept, Whole, Covers, machine_of, whole_of}
 use Rattle.vx_machine.specs.Running.{stepped}

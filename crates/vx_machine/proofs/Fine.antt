@@ -1,5 +1,6 @@
 -- What an image that fits a version keeps of names, rows and objects, and when its classes rise.
-use Rattle.std.proofs.Common.{◌≡◌, ◌∙◌, ◌↔◌, ℕ, zero, suc, ◌+◌, ◌<◌, ◌≤◌, ◌^◌, ◌&&◌, Bool, true, List, [], ◌∷◌, length, Option, Some, None, ap, refl, sym, arith}
+use Rattle.std.proofs.Common.{◌≡◌, ◌∙◌, ◌↔◌, ℕ, zero, suc, ◌+◌, ◌<◌, ◌≤◌, ◌^◌, ◌&&◌, Bool, true, List, [], ◌∷◌, length}
+use Rattle.std.proofs.Common.{Option, Some, None, ap, refl, sym, arith}
 use Rattle.std.specs.List.{list_all}
 use Rattle.std.specs.Prelude.{nat_le, nat_lt, slice_get}
 use Rattle.std.proofs.lemmas.Bool.{and_parts, leb-true, ltb-true}
@@ -17,7 +18,8 @@ use Rattle.vx_format.specs.declared.image.Position.{Position}
 use Rattle.vx_format.specs.declared.image.Table.{Table}
 use Rattle.vx_format.specs.declared.image.Image.{Image}
 use Rattle.vx_format.specs.Numbers.{each, every, is_number}
-use Rattle.vx_format.specs.Layout.{is_block, is_code, is_image, is_instr, is_long_name, is_name, is_optional, is_own, is_shape, is_table, is_test, may_capture, most_rows}
+use Rattle.vx_format.specs.Layout.{is_block, is_code, is_image, is_instr, is_long_name, is_name, is_optional, is_own, is_shape}
+use Rattle.vx_format.specs.Layout.{is_table, is_test, may_capture, most_rows}
 use Rattle.vx_format.specs.Layout.{instr, roster_of, starts}
 use Rattle.vx_places.specs.ImageMachine.{block_at}
 use Rattle.vx_machine.specs.Cuts.{AreNamed, IsNamed}

@@ -110,7 +110,8 @@ pub turn_filled : (fields : List ℕ) (words : List Word) (slots : List (ℕ × 
 turn_filled fields words slots i found t =
     ap (filled_words (drop (i + 1) fields) (drop (i + 1) words)) (sym (put_after fields words slots i found t))
     ∙ sym (ap (λ (fs : List ℕ). filled_words fs (drop i words) slots) (drop_more fields i 0 t.within)
-    ∙ ap (λ (ws : List Word). filled_words (get_or fields i 0 ∷ drop (i + 1) fields) ws slots) (drop_more words i none_read (omega (arith, t.within, t.as_many))))
+    ∙ ap (λ (ws : List Word). filled_words (get_or fields i 0 ∷ drop (i + 1) fields) ws slots)
+    (drop_more words i none_read (omega (arith, t.within, t.as_many))))
 
 words_at : (texts : ℕ) (words : List Word) (i : ℕ) → AreWordsSound texts words → IsWordSound texts (get_or words i none_read)
 words_at texts [] i all = tt
@@ -139,7 +140,10 @@ pub record Shapes (image : Image) (all : Whole) (class : ℕ) (slots : List (ℕ
 made_at : (image : Image) (all : Whole) (class : ℕ) (fields : List ℕ) (values : List Value) (slots : List (ℕ × Word)) (objects : List Placed)
     → Shapes image all class slots → made image class fields values objects ≡ made_of class fields values objects (map (slot_value all.texts) slots)
 made_at image all class fields values slots objects s =
-    ap (λ (o : Option (List Slot)). elim o as (λ o'. Making by_place) [ Some shape ↦ made_of class fields values objects (fresh image.own shape) | None ↦ NoClass ])
+    ap (λ (o : Option (List Slot)). elim o as (λ o'. Making by_place) [
+      | Some shape ↦ made_of class fields values objects (fresh image.own shape)
+      | None ↦ NoClass
+    ])
     s.at
     ∙ ap (made_of class fields values objects) (sym s.fresh_is)
 

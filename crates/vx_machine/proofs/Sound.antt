@@ -91,10 +91,12 @@ pub texts_grow : (texts texts' : List Bytes) (captured : List Local) (objects : 
 texts_grow texts texts' captured objects cells closures t is =
     let le : length texts ≤ length texts' = length_grows texts texts' t in
     record {
-      of_objects = all_more (IsObjectSound (length texts)) (IsObjectSound (length texts')) objects (object_grows (length texts) (length texts') le) is.of_objects;
+      of_objects =
+          all_more (IsObjectSound (length texts)) (IsObjectSound (length texts')) objects (object_grows (length texts) (length texts') le) is.of_objects;
       of_cells = all_more (IsWordSound (length texts)) (IsWordSound (length texts')) cells (word_grows (length texts) (length texts') le) is.of_cells;
       of_closures = is.of_closures;
-      of_captured = all_more (IsLocalSound (length texts)) (IsLocalSound (length texts')) captured (local_grows (length texts) (length texts') le) is.of_captured;
+      of_captured =
+          all_more (IsLocalSound (length texts)) (IsLocalSound (length texts')) captured (local_grows (length texts) (length texts') le) is.of_captured;
     }
 
 -- more is captured
@@ -112,7 +114,8 @@ captured_grows texts captured captured' objects cells closures c new is =
 
 -- ---- activations
 
-pub pushes : (texts captured : ℕ) (word : Word) (s : Stacked) → IsStackSound texts captured s → IsWordSound texts word → IsStackSound texts captured (pushed word s)
+pub pushes : (texts captured : ℕ) (word : Word) (s : Stacked) → IsStackSound texts captured s → IsWordSound texts word
+    → IsStackSound texts captured (pushed word s)
 pushes texts captured word s is own = (record { operands = (own, is.0.operands); locals = is.0.locals; role = is.0.role }, is.1)
 
 pub pops : (texts captured : ℕ) (word : Word) (old s : Stacked) → old ≡ pushed word s → IsStackSound texts captured old
@@ -141,7 +144,8 @@ unsets texts (suc n) = (tt, unsets texts n)
 opens : (texts count : ℕ) (captures : List Local) (words : List Word) → AreLocalsSound texts captures → AreWordsSound texts words
     → AreLocalsSound texts (opened count captures words)
 opens texts count captures words held given =
-    all_joined (IsLocalSound texts) captures _ held (all_joined (IsLocalSound texts) (map (λ word. h.Plain word) words) _ (plains texts words given) (unsets texts _))
+    all_joined (IsLocalSound texts) captures _ held
+    (all_joined (IsLocalSound texts) (map (λ word. h.Plain word) words) _ (plains texts words given) (unsets texts _))
 
 pub enters : (texts captured : ℕ) (code : ℕ) (block : Block) (captures : List Local) (count under : ℕ) (role : Role) (s : Stacked)
     → IsStackSound texts captured s → AreLocalsSound texts captures → IsRoleSound captured role

@@ -50,7 +50,8 @@ forgets k below locals operands count low le =
     let none : count + 0 ≡ count = omega arith in
     let same : length operands - count ≡ length operands - count - 0 = omega arith in
     let left : reverse (drop k.floor (take (length operands - count) operands)) ≡ drop count (reverse (drop k.floor operands)) =
-    ap (λ (n : ℕ). reverse (drop k.floor (take n operands))) same ∙ left_waiting operands k.floor count 0 low (omega arith) ∙ ap (λ (n : ℕ). drop n (reverse (drop k.floor operands))) none in
+    ap (λ (n : ℕ). reverse (drop k.floor (take n operands))) same
+    ∙ left_waiting operands k.floor count 0 low (omega arith) ∙ ap (λ (n : ℕ). drop n (reverse (drop k.floor operands))) none in
     rw (left, take-take k.floor (length operands - count) operands (omega arith)) refl
 
 -- those that it takes
