@@ -1,11 +1,14 @@
 -- Tests of objects by their slots.
-use Rattle.std.proofs.Common.{◌≡◌, ℕ, zero, suc, ◌+◌, ◌<◌, ◌≤◌, ◌++◌, max, append_assoc, sym, ℤ, Bool, false, List, [], ◌∷◌, length, drop, map}
+use Rattle.std.proofs.Common.{◌≡◌, ℕ, zero, suc, ◌<◌, ◌≤◌, max, sym, ℤ, Bool, false, List, [], ◌∷◌, length, drop, map}
 use Rattle.std.proofs.Common.{Option, Some, None, refl, ap, ◌∙◌, arith}
 use Rattle.std.specs.Option.{option_map}
 use Rattle.std.specs.Prelude.{slice_get}
 use Rattle.std.proofs.lemmas.Option.{slice_get-map}
-use Rattle.std.proofs.Math.Numerals.{suc-eq-add-one}
-use Rattle.std.proofs.lemmas.List.{append-nil, drop_all}
+use Rattle.std.proofs.lemmas.List.{drop_all}
+use Rattle.std.specs.List.{list_all}
+use Rattle.std.specs.Prelude.{bit_and, ◌&&◌, true}
+use Rattle.vx_tables.specs.Masks.{has}
+use Rattle.vx_tables.proofs.Bits.{has_and}
 use Rattle.vx_format.specs.declared.image.Own.{Own}
 use Rattle.vx_format.specs.declared.image.Position.{Position}
 use Rattle.vx_format.specs.declared.image.Table.{Table}
@@ -86,23 +89,21 @@ masks_next image texts objects (w ∷ words) [] (suc i) lt =
 masks_next image texts objects (w ∷ words) (p ∷ positions) zero lt = refl
 masks_next image texts objects (w ∷ words) (p ∷ positions) (suc i) lt = masks_next image texts objects words positions i (omega arith)
 
--- the masks so far, one more, and those of the rest
-pub masks_on : (image : Image) (texts : Texts) (objects : List Object) (words : List Word) (positions : List Position) (i : ℕ) (before new : List ℕ) (mask : ℕ)
-    → i < max (length words) (length positions) → new ≡ before ++ mask ∷ [] → mask ≡ mask_one image texts objects (slice_get words i) (slice_get positions i)
-    → new ++ masks_of image (things_of texts objects) (map (value_of texts) (drop (i + 1) words)) (drop (i + 1) positions)
-    ≡ before ++ masks_of image (things_of texts objects) (map (value_of texts) (drop i words)) (drop i positions)
-masks_on image texts objects words positions i before new mask lt is one =
-    let rest : List ℕ = masks_of image (things_of texts objects) (map (value_of texts) (drop (i + 1) words)) (drop (i + 1) positions) in
-    ap (λ (xs : List ℕ). xs ++ rest) is ∙ append_assoc before (mask ∷ []) rest ∙ ap (λ (m : ℕ). before ++ m ∷ rest) one
-    ∙ ap (λ (n : ℕ). before ++ mask_one image texts objects (slice_get words i) (slice_get positions i)
-    ∷ masks_of image (things_of texts objects) (map (value_of texts) (drop n words)) (drop n positions)) (sym (suc-eq-add-one i))
-    ∙ ap (λ (xs : List ℕ). before ++ xs) (sym (masks_next image texts objects words positions i lt))
+-- the rows that count so far, and those of one mask more
+pub rows_next : (all rest : List ℕ) (left mask row : ℕ) → all ≡ mask ∷ rest
+    → (has (bit_and left mask) row && list_all (λ m. has m row) rest) ≡ (has left row && list_all (λ m. has m row) all)
+rows_next all rest left mask row is =
+    ap (λ (b : Bool). b && list_all (λ m. has m row) rest) (has_and left mask row)
+    ∙ and_left (has left row) (has mask row) (list_all (λ m. has m row) rest) ∙ ap (λ (ms : List ℕ). has left row && list_all (λ m. has m row) ms) (sym is)
+  where
+    and_left : (a b c : Bool) → ((a && b) && c) ≡ (a && (b && c))
+    and_left true b c = refl
+    and_left false b c = refl
 
-pub masks_all : (image : Image) (texts : Texts) (objects : List Object) (words : List Word) (positions : List Position) (i : ℕ) (found : List ℕ)
-    → max (length words) (length positions) ≤ i
-    → found ++ masks_of image (things_of texts objects) (map (value_of texts) (drop i words)) (drop i positions) ≡ found
-masks_all image texts objects words positions i found le =
-    rw (drop_all i words (omega arith), drop_all i positions (omega arith)) (append-nil found)
+-- past the last value and the last position there are no masks
+pub masks_end : (image : Image) (texts : Texts) (objects : List Object) (words : List Word) (positions : List Position) (i : ℕ)
+    → max (length words) (length positions) ≤ i → masks_of image (things_of texts objects) (map (value_of texts) (drop i words)) (drop i positions) ≡ []
+masks_end image texts objects words positions i le = rw (drop_all i words (omega arith), drop_all i positions (omega arith)) refl
 
 pub beats_kept : (image : Image) (t : ℕ) (table : Table) (kept : List (List ℕ)) → kept ≡ beats_of image → slice_get image.tables t ≡ Some table
     → slice_get kept t ≡ Some (map (λ row. row.beats) table.rows)

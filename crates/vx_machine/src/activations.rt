@@ -56,6 +56,7 @@ impl<'a> Activations<'a> {
     }
 
     /// Puts an operand on top.
+    #[inline(always)]
     pub fn push(&mut self, word: Word<'a>) -> Result<(), AllocError>
         ensures ok { OnOk result (self.new ≡ pushed word.entry self.old) }
         ensures err { OnErr result (self.new ≡ self.old) }
@@ -65,6 +66,7 @@ impl<'a> Activations<'a> {
     }
 
     /// Takes the operand from the top.
+    #[inline(always)]
     pub fn pop(&mut self) -> Option<Word<'a>>
         ensures { MatchOption result ((self.old.running.operands ≡ []) × (self.new ≡ self.old)) (λ word. self.old ≡ pushed word self.new) }
     {
@@ -75,6 +77,7 @@ impl<'a> Activations<'a> {
     }
 
     /// Drops so many operands from the top.
+    #[inline(always)]
     pub fn forget(&mut self, count: usize)
         requires { count ≤ length self.old.running.operands }
         ensures { self.new ≡ forgotten count self.old }
@@ -83,6 +86,7 @@ impl<'a> Activations<'a> {
     }
 
     /// The operand that has so many above it.
+    #[inline(always)]
     pub fn peek(&self, depth: usize) -> Option<Word<'a>>
         ensures { result ≡ slice_get self.now.running.operands depth }
     {
@@ -93,6 +97,7 @@ impl<'a> Activations<'a> {
     }
 
     /// So many of the topmost operands, the last of them on top.
+    #[inline(always)]
     pub fn arguments(&self, count: usize) -> &[Word<'a>]
         requires { count ≤ length self.now.running.operands }
         ensures { result.now ≡ reverse (take count self.entry.now.running.operands) }
@@ -105,6 +110,7 @@ impl<'a> Activations<'a> {
     }
 
     /// How many operands there are.
+    #[inline(always)]
     pub fn operands(&self) -> usize
         ensures { result ≡ length self.now.running.operands }
     {
@@ -112,6 +118,7 @@ impl<'a> Activations<'a> {
     }
 
     /// What the activation runs.
+    #[inline(always)]
     pub fn role(&self) -> Role
         ensures { result ≡ self.now.running.role }
     {
@@ -119,6 +126,7 @@ impl<'a> Activations<'a> {
     }
 
     /// The code of the activation.
+    #[inline(always)]
     pub fn code(&self) -> u32
         ensures { result ≡ self.now.running.code }
     {
@@ -126,6 +134,7 @@ impl<'a> Activations<'a> {
     }
 
     /// What the local holds.
+    #[inline(always)]
     pub fn local(&self, x: u32) -> Option<Local<'a>>
         ensures { result ≡ slice_get self.now.running.locals x }
     {
@@ -136,6 +145,7 @@ impl<'a> Activations<'a> {
     }
 
     /// Lets the local hold something. It answers whether there is such a local.
+    #[inline(always)]
     pub fn set_local(&mut self, x: u32, held: Local<'a>) -> bool
         ensures there { result ≡ true → (x < length self.old.running.locals) × (self.new ≡ with_local x held.entry self.old) }
         ensures missing { result ≡ false → (length self.old.running.locals ≤ x) × (self.new ≡ self.old) }
@@ -149,6 +159,7 @@ impl<'a> Activations<'a> {
     }
 
     /// Takes the next instruction.
+    #[inline(always)]
     pub fn fetch(&mut self) -> Option<&'a Instr>
         ensures none { result ≡ None → (self.old.running.left ≡ []) × (self.new ≡ self.old) }
         ensures some { (i : _) → option_copied result ≡ Some i → self.old ≡ with_left (i ∷ self.new.running.left) self.new }
@@ -165,6 +176,7 @@ impl<'a> Activations<'a> {
     }
 
     /// Leaves the activation. It answers whether one was waiting.
+    #[inline(always)]
     pub fn leave(&mut self) -> bool
         ensures waits { result ≡ true → self.old.waiting ≡ self.new.running ∷ self.new.waiting }
         ensures last { result ≡ false → (self.old.waiting ≡ []) × (self.new ≡ self.old) }
@@ -181,6 +193,7 @@ impl<'a> Activations<'a> {
     }
 
     /// Enters a block with what was captured. Its arguments are the topmost operands, and so many more go with them.
+    #[inline(always)]
     pub fn enter(
         &mut self,
         code: u32,
@@ -233,8 +246,9 @@ impl<'a> Activations<'a> {
         ensures ok { OnOk result (self.new ≡ restarted code block.entry.now captures.entry.now role self.old) }
         ensures err { OnErr result (self.new ≡ emptied self.old) }
     {
+        let floor = self.running.floor;
         self.locals.truncate(self.running.base);
-        self.operands.truncate(self.running.floor);
+        self.operands.truncate(floor);
         match open(&mut self.locals, captures, &[], block.locals) {
             Ok(()) => {
                 self.running.instrs = block.code.as_slice();
@@ -267,6 +281,7 @@ impl<'a> Activations<'a> {
 }
 
 // Whether an activation of the role is the home.
+#[inline(always)]
 fn is_home(home: u64, role: Role) -> bool
     ensures { result ≡ is_home home role }
 {
@@ -278,6 +293,7 @@ fn is_home(home: u64, role: Role) -> bool
 }
 
 // Adds the locals of a block: what was captured, the arguments, the rest.
+#[inline(always)]
 fn open<'a>(
     locals: &mut Vec<Local<'a>>,
     captures: &[Local<'a>],

@@ -9,12 +9,13 @@ ghost use Rattle.vx_machine.specs.Sound.{IsHeldSound, IsWordSound};
 
 use crate::machine::Machine;
 use crate::ready::Ready;
-use crate::word::{Held, Local, Role, Step, Word};
-use std::alloc::AllocError;
+use crate::word::{Held, Local, Role, Step, Word, apart};
+use std::alloc::{AllocError, Global};
 use vx_model::RunError;
 
 impl<'a> Machine<'a> {
     /// Enters a method's code with so many operands as its arguments.
+    #[inline(always)]
     pub fn enter(&mut self, ready: &Ready<'a>, code: u32, count: usize) -> Result<Step, AllocError>
         requires enough { count ≤ length self.old.stacked.running.operands }
         requires room { self.old.next + 1 < 2 ^ 64 }
@@ -35,6 +36,7 @@ impl<'a> Machine<'a> {
     }
 
     /// Enters a code with its arguments, which are on top.
+    #[inline(always)]
     pub fn call(&mut self, ready: &Ready<'a>, code: u32) -> Result<Step, AllocError>
         requires room { self.old.next + 1 < 2 ^ 64 }
         ensures does { Did ready.now (instrs.Call code) result self.old self.new }
@@ -51,6 +53,7 @@ impl<'a> Machine<'a> {
     }
 
     /// The home of the activation that runs.
+    #[inline(always)]
     pub fn home(&self) -> u64
         ensures { (all : Whole) → result ≡ home_of (role_of all self.now.stacked.running.role) }
     {
@@ -62,7 +65,8 @@ impl<'a> Machine<'a> {
     }
 
     /// Leaves the activation in which the closure was made, with the top.
-    pub fn leave_home(&mut self) -> Result<Step, AllocError>
+    #[inline(never)]
+    pub fn leave_home(&mut self, alloc: Global) -> Result<Step, AllocError>
         ensures does { (image : Image) → Did image instrs.Home result self.old self.new }
         ensures later { IsLater self.old self.new }
     {
@@ -71,7 +75,7 @@ impl<'a> Machine<'a> {
             None => Ok(Step::Lacks),
             Some(word) => {
                 match self.activations.leave_home(home) {
-                    None => Ok(Step::Stops(RunError::DeadReturn)),
+                    None => Ok(Step::Stops(apart(alloc, RunError::DeadReturn)?)),
                     Some(false) => Ok(Step::Over),
                     Some(true) => {
                         self.activations.push(word)?;
@@ -83,6 +87,7 @@ impl<'a> Machine<'a> {
     }
 
     /// Leaves the activation with the top, or begins the next turn of a loop.
+    #[inline(always)]
     pub fn leave(&mut self, ready: &Ready<'a>) -> Result<Step, AllocError>
         ensures does { Did ready.now instrs.Ret result self.old self.new }
         ensures later { IsLater self.old self.new }
@@ -98,6 +103,7 @@ impl<'a> Machine<'a> {
     }
 
     // Leaves the activation with a value for the one that waits.
+    #[inline(always)]
     fn deliver(&mut self, word: Word<'a>) -> Result<Step, AllocError>
         requires { IsWordSound (length self.old.texts) word }
         ensures does { (image : Image) → Delivers image word.entry result self.old self.new }
@@ -112,6 +118,7 @@ impl<'a> Machine<'a> {
     }
 
     // Begins the next turn of a loop in the place of the activation that runs.
+    #[inline(always)]
     fn turn(&mut self, ready: &Ready<'a>, held: Held) -> Result<Step, AllocError>
         requires { IsHeldSound (length self.old.captured) held }
         ensures does { Turns ready.now held result self.old self.new }
@@ -129,6 +136,7 @@ impl<'a> Machine<'a> {
 }
 
 /// So many from a place on.
+#[inline(always)]
 pub fn part<'b, 'a>(captured: &'b [Local<'a>], first: usize, count: u32) -> &'b [Local<'a>]
     requires { (first + count) ≤ length captured.now }
     ensures { result.now ≡ take count (drop first captured.entry.now) }

@@ -13,6 +13,7 @@ use std::alloc::AllocError;
 use vx_format::{ClassMask, Image, Own, Position};
 
 // The class of an object.
+#[inline(always)]
 fn class_at(objects: &[Object<'_>], number: usize) -> Option<u32>
     ensures { result ≡ class_at objects.entry.now number }
 {
@@ -23,6 +24,7 @@ fn class_at(objects: &[Object<'_>], number: usize) -> Option<u32>
 }
 
 /// The class of a value.
+#[inline(always)]
 pub fn class_of(own: &Own, objects: &[Object<'_>], word: Word<'_>) -> Option<u32>
     ensures { (texts : Texts) → result ≡ class_of own.now (things_of texts objects.entry.now) (value_of texts word.entry) }
 {
@@ -54,6 +56,7 @@ fn is_held(
 }
 
 // The mask with those of the tests that hold.
+#[inline(never)]
 fn with_tests(
     image: &Image,
     objects: &[Object<'_>],
@@ -76,6 +79,7 @@ fn with_tests(
 }
 
 /// The rows that a value may take at a position. Where all classes rise they are sought by halves.
+#[inline(always)]
 pub fn mask(
     image: &Image,
     objects: &[Object<'_>],
@@ -93,18 +97,15 @@ pub fn mask(
     };
     let entries = position.classes.as_slice();
     let start = class_mask(position.default, class, entries, rise);
-    with_tests(
-        image,
-        objects,
-        word,
-        class,
-        start,
-        position.tests.as_slice(),
-        truths,
-    )
+    let tests = position.tests.as_slice();
+    if tests.is_empty() {
+        return Ok(start);
+    }
+    with_tests(image, objects, word, class, start, tests, truths)
 }
 
 // The mask of a class, sought by halves where the classes rise.
+#[inline(always)]
 fn class_mask(default: u128, class: u32, entries: &[ClassMask], rise: bool) -> u128
     requires { rise ≡ true → Rises entries.now }
     ensures { result ≡ class_mask default class entries.now }

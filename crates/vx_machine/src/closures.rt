@@ -10,12 +10,13 @@ use crate::activations::Activations;
 use crate::calls::part;
 use crate::machine::Machine;
 use crate::ready::Ready;
-use crate::word::{Held, Local, Role, Step, Word};
-use std::alloc::AllocError;
+use crate::word::{Held, Local, Role, Step, Word, apart};
+use std::alloc::{AllocError, Global};
 use vx_model::RunError;
 
 impl<'a> Machine<'a> {
     /// Pushes a closure of a block with what some locals hold.
+    #[inline(always)]
     pub fn close(&mut self, ready: &Ready<'a>, block: u32, xs: &[u32]) -> Result<Step, AllocError>
         ensures does { Did ready.now (instrs.Closure block xs.now) result self.old self.new }
         ensures later { IsLater self.old self.new }
@@ -46,6 +47,7 @@ impl<'a> Machine<'a> {
     }
 
     // The closure.
+    #[inline(always)]
     fn closure(&self, closure: usize) -> Option<Held>
         ensures { result ≡ slice_get self.now.closures closure }
     {
@@ -53,8 +55,10 @@ impl<'a> Machine<'a> {
     }
 
     /// Evaluates a closure, which so many operands, its arguments, have below them.
+    #[inline(always)]
     pub fn evaluate(
         &mut self,
+        alloc: Global,
         ready: &Ready<'a>,
         closure: usize,
         count: u8,
@@ -71,7 +75,7 @@ impl<'a> Machine<'a> {
             return Ok(Step::Lacks);
         };
         if block.formals != count {
-            return Ok(Step::Stops(RunError::ClosureArity(count)));
+            return Ok(Step::Stops(apart(alloc, RunError::ClosureArity(count))?));
         }
         let captures = part(self.captured.as_slice(), held.first, held.count);
         let role = Role::Evaluation(held.home);
@@ -81,7 +85,13 @@ impl<'a> Machine<'a> {
     }
 
     /// Begins the first turn of a loop over the closure that is on top.
-    pub fn repeat(&mut self, ready: &Ready<'a>, closure: usize) -> Result<Step, AllocError>
+    #[inline(always)]
+    pub fn repeat(
+        &mut self,
+        alloc: Global,
+        ready: &Ready<'a>,
+        closure: usize,
+    ) -> Result<Step, AllocError>
         requires { 1 ≤ length self.old.stacked.running.operands }
         ensures does { Repeats ready.now closure result self.old self.new }
         ensures later { IsLater self.old self.new }
@@ -94,7 +104,7 @@ impl<'a> Machine<'a> {
             return Ok(Step::Lacks);
         };
         if block.formals != 0 {
-            return Ok(Step::Stops(RunError::ClosureArity(0)));
+            return Ok(Step::Stops(apart(alloc, RunError::ClosureArity(0))?));
         }
         let captures = part(self.captured.as_slice(), held.first, held.count);
         let role = Role::Turn(held);
@@ -105,6 +115,7 @@ impl<'a> Machine<'a> {
 }
 
 // Adds what the locals hold to what was captured. It answers whether all of them hold something.
+#[inline(always)]
 fn capture<'a>(
     activations: &Activations<'a>,
     captured: &mut Vec<Local<'a>>,
@@ -128,6 +139,7 @@ fn capture<'a>(
 }
 
 // Whether a local holds nothing yet.
+#[inline(always)]
 fn is_unset(held: Local<'_>) -> bool
     ensures { result ≡ is_unset held.entry }
 {

@@ -1,7 +1,9 @@
 //! Which row of a table a message takes.
-ghost use Rattle.std.specs.Prelude.{◌≡◌, ◌++◌, ◌∷◌, [], map, true, slice_get, Some, IfOk, OnOk};
+ghost use Rattle.std.specs.Prelude.{◌≡◌, ℕ, ◌<◌, map, true, slice_get, Some, IfOk};
+ghost use Rattle.std.specs.List.{list_all};
 ghost use Rattle.std.specs.Option.{option_copied};
 ghost use Rattle.vx_format.specs.declared.image.Position.{Position};
+ghost use Rattle.vx_tables.specs.Masks.{has};
 ghost use Rattle.vx_places.specs.Dispatch.{masks_of};
 ghost use Rattle.vx_machine.specs.Masks.{mask_one};
 ghost use Rattle.vx_machine.specs.Meaning.{Texts, things_of, value_of};
@@ -15,6 +17,7 @@ use std::alloc::AllocError;
 use vx_format::{Image, Position};
 
 // The rows that count at a position where there may be a value, and none where there is no value or no position.
+#[inline(always)]
 fn mask_at(
     image: &Image,
     objects: &[Object<'_>],
@@ -37,31 +40,32 @@ fn mask_at(
 }
 
 /// The word at a place.
+#[inline(always)]
 pub fn taken<'a>(words: &[Word<'a>], i: usize) -> Option<Word<'a>>
     ensures { result ≡ slice_get words.entry.now i }
 {
     words.get(i).copied()
 }
 
-/// The rows that count for each of the values, position by position.
-pub fn masks(
+/// The rows that count for all of the values, each at its position.
+#[inline(always)]
+pub fn rows_left(
     image: &Image,
     objects: &[Object<'_>],
     words: &[Word<'_>],
     positions: &[Position],
     rise: bool,
     truths: &mut Truths,
-    masks: &mut Vec<u128>,
-) -> Result<(), AllocError>
+) -> Result<u128, AllocError>
     requires { rise ≡ true → (p : _) → (position : Position) → slice_get positions.now p ≡ Some position → Rises position.classes }
-    ensures { OnOk result ((texts : Texts)
-        → masks.new.items ≡ masks_of image.now (things_of texts objects.entry.now) (map (value_of texts) words.entry.now) positions.now) }
+    ensures { IfOk result (λ left. (texts : Texts) → (row : ℕ) → row < 128 → has left row
+        ≡ list_all (λ mask. has mask row) (masks_of image.now (things_of texts objects.entry.now) (map (value_of texts) words.entry.now) positions.now)) }
 {
-    masks.clear();
+    let mut left = u128::MAX;
     let count = words.len().max(positions.len());
     for i in 0..count {
         let word = taken(words, i);
-        masks.push(mask_at(image, objects, word, at(positions, i), rise, truths)?)?;
+        left &= mask_at(image, objects, word, at(positions, i), rise, truths)?;
     }
-    Ok(())
+    Ok(left)
 }

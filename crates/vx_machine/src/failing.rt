@@ -5,13 +5,14 @@ ghost use Rattle.vx_names.specs.Name.{IsName};
 ghost use Rattle.vx_machine.specs.Meaning.{Did, IsLater};
 
 use crate::machine::Machine;
-use crate::word::Step;
+use crate::word::{Step, apart};
 use std::alloc::{AllocError, Global};
 use vx_model::RunError;
 use vx_names::{Selector, name_of};
 
 impl<'a> Machine<'a> {
     /// Ends the run with an error of the kind.
+    #[inline(never)]
     pub fn fail(
         &mut self,
         alloc: Global,
@@ -25,9 +26,9 @@ impl<'a> Machine<'a> {
     {
         let name = name_of(alloc, name)?;
         match kind {
-            0 => Ok(Step::Stops(RunError::NoField(name))),
-            1 => Ok(Step::Stops(RunError::UnknownObject(name))),
-            _ => Ok(Step::Stops(RunError::NotUnderstood(Selector { name, arity }))),
+            0 => Ok(Step::Stops(apart(alloc, RunError::NoField(name))?)),
+            1 => Ok(Step::Stops(apart(alloc, RunError::UnknownObject(name))?)),
+            _ => Ok(Step::Stops(apart(alloc, RunError::NotUnderstood(Selector { name, arity }))?)),
         }
     }
 }

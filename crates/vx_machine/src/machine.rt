@@ -32,8 +32,6 @@ pub struct Machine<'a> {
     pub lines: Vec<Items<u8>>,
     /// Room for the truth values of tests.
     pub truths: Truths,
-    /// Room for the rows that the arguments of a message may take.
-    pub masks: Vec<u128>,
 }
 
 impl<'a> Model for Machine<'a> {
@@ -67,6 +65,7 @@ impl<'a> Model for Machine<'a> {
 
 impl<'a> Machine<'a> {
     /// Pushes a number.
+    #[inline(always)]
     pub fn int(&mut self, z: &i128) -> Result<Step, AllocError>
         ensures does { (image : Image) → Did image (instrs.Int z.now) result self.old self.new }
         ensures later { IsLater self.old self.new }
@@ -76,6 +75,7 @@ impl<'a> Machine<'a> {
     }
 
     /// Pushes a string.
+    #[inline(always)]
     pub fn text(&mut self, bytes: &'a [u8]) -> Result<Step, AllocError>
         ensures does { (image : Image) → Did image (instrs.Text bytes.entry.now) result self.old self.new }
         ensures later { IsLater self.old self.new }
@@ -85,6 +85,7 @@ impl<'a> Machine<'a> {
     }
 
     /// Pushes an object.
+    #[inline(always)]
     pub fn object(&mut self, o: u32) -> Result<Step, AllocError>
         ensures does { (image : Image) → Did image (instrs.Object o) result self.old self.new }
         ensures later { IsLater self.old self.new }
@@ -94,6 +95,7 @@ impl<'a> Machine<'a> {
     }
 
     /// Drops the top.
+    #[inline(always)]
     pub fn pop(&mut self) -> Result<Step, AllocError>
         ensures does { (image : Image) → Did image instrs.Pop result self.old self.new }
         ensures later { IsLater self.old self.new }
@@ -105,6 +107,7 @@ impl<'a> Machine<'a> {
     }
 
     /// Pushes the value of a local.
+    #[inline(always)]
     pub fn load(&mut self, x: u32) -> Result<Step, AllocError>
         ensures does { (image : Image) → Did image (instrs.Load x) result self.old self.new }
         ensures later { IsLater self.old self.new }
@@ -121,6 +124,7 @@ impl<'a> Machine<'a> {
     }
 
     /// Takes the number of an activation.
+    #[inline(always)]
     pub fn mark(&mut self) -> Result<Step, AllocError>
         requires room { self.old.next + 1 < 2 ^ 64 }
         ensures does { (image : Image) → Did image instrs.Mark result self.old self.new }
@@ -131,6 +135,7 @@ impl<'a> Machine<'a> {
     }
 
     /// Puts the top into a local.
+    #[inline(always)]
     pub fn store(&mut self, x: u32) -> Result<Step, AllocError>
         ensures does { (image : Image) → Did image (instrs.Store x) result self.old self.new }
         ensures later { IsLater self.old self.new }
@@ -147,6 +152,7 @@ impl<'a> Machine<'a> {
     }
 
     /// Pushes what the cell of a local holds.
+    #[inline(always)]
     pub fn cell_get(&mut self, x: u32) -> Result<Step, AllocError>
         ensures does { (image : Image) → Did image (instrs.CellGet x) result self.old self.new }
         ensures later { IsLater self.old self.new }
@@ -166,6 +172,7 @@ impl<'a> Machine<'a> {
     }
 
     /// Puts the top into a new cell, which the local holds.
+    #[inline(always)]
     pub fn cell(&mut self, x: u32) -> Result<Step, AllocError>
         ensures does { (image : Image) → Did image (instrs.Cell x) result self.old self.new }
         ensures later { IsLater self.old self.new }
@@ -184,6 +191,7 @@ impl<'a> Machine<'a> {
     }
 
     /// Puts the top into the cell of a local.
+    #[inline(always)]
     pub fn cell_set(&mut self, x: u32) -> Result<Step, AllocError>
         ensures does { (image : Image) → Did image (instrs.CellSet x) result self.old self.new }
         ensures later { IsLater self.old self.new }

@@ -16,6 +16,7 @@ use vx_format::{Initial, Own, Slot};
 
 impl<'a> Machine<'a> {
     /// Pops a value for each of the fields, and pushes a new object of the class that has them in its slots.
+    #[inline(never)]
     pub fn make(
         &mut self,
         alloc: Global,

@@ -6,6 +6,7 @@ ghost use Rattle.vx_machine.specs.Rising.{Rises};
 use vx_format::ClassMask;
 
 /// The mask of the class, or the default, where classes rise: a search by halves.
+#[inline(always)]
 pub fn mask_of(default: u128, class: u32, entries: &[ClassMask]) -> u128
     requires { Rises entries.now }
     ensures { result ≡ class_mask default class entries.now }
@@ -28,6 +29,7 @@ pub fn mask_of(default: u128, class: u32, entries: &[ClassMask]) -> u128
 }
 
 /// The mask of the class, or the default: a search from the front.
+#[inline(never)]
 pub fn first_mask(default: u128, class: u32, entries: &[ClassMask]) -> u128
     ensures { result ≡ class_mask default class entries.now }
 {

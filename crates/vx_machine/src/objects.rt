@@ -11,6 +11,7 @@ use std::alloc::AllocError;
 
 impl<'a> Machine<'a> {
     /// Pops an object, and pushes what a field of it holds.
+    #[inline(always)]
     pub fn get(&mut self, ready: &Ready<'a>, field: u32) -> Result<Step, AllocError>
         ensures does { Did ready.now (instrs.Get field) result self.old self.new }
         ensures later { IsLater self.old self.new }
@@ -22,6 +23,7 @@ impl<'a> Machine<'a> {
     }
 
     /// As `get`, where there is an operand.
+    #[inline(always)]
     pub fn get_top(&mut self, ready: &Ready<'a>, field: u32) -> Result<Step, AllocError>
         requires { 1 ≤ length self.old.stacked.running.operands }
         ensures does { Gets ready.now field result self.old self.new }
@@ -82,6 +84,7 @@ impl<'a> Machine<'a> {
 }
 
 /// What the object of the number holds in a field.
+#[inline(always)]
 pub fn held<'a>(objects: &[Object<'a>], number: usize, field: u32) -> Option<Word<'a>>
     ensures { result ≡ held_at objects.entry.now number field }
 {
@@ -92,6 +95,7 @@ pub fn held<'a>(objects: &[Object<'a>], number: usize, field: u32) -> Option<Wor
 }
 
 // The first slot of a field.
+#[inline(always)]
 fn slot<'a>(slots: &[(u32, Word<'a>)], field: u32) -> Option<Word<'a>>
     ensures { result ≡ word_at field slots.entry.now }
 {

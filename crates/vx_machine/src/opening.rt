@@ -57,7 +57,6 @@ pub fn begin<'a>(
     ready: &Ready<'a>,
     objects: &[Object<'a>],
     truths: &mut Truths,
-    masks: &mut Vec<u128>,
 ) -> Result<Begun<'a>, AllocError>
     requires { (texts : Texts) → things_of texts objects.now ≡ (opening ready.now).objects }
     ensures means { IfOk result (λ begun. Begins ready.now (main_found ready.now) begun) }
@@ -71,7 +70,7 @@ pub fn begin<'a>(
     let Some(table) = ready.table(t) else {
         return Ok(Begun::Lacks);
     };
-    match ready.picked(t, table, objects, &[], None, truths, masks)? {
+    match ready.picked(t, table, objects, &[], None, truths)? {
         Picked::None => Ok(Begun::Stops(RunError::NotUnderstood(selector(alloc, table)?))),
         Picked::Many => Ok(Begun::Stops(RunError::Ambiguous(selector(alloc, table)?))),
         Picked::Row(row) => match at(table.rows.as_slice(), row as usize) {

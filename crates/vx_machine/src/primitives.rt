@@ -14,7 +14,7 @@ ghost use Rattle.vx_machine.specs.Deeds.{Answers, IsAnswerSound, Performs, bytes
 
 use crate::machine::Machine;
 use crate::ready::Ready;
-use crate::word::{Step, Word};
+use crate::word::{Step, Word, apart};
 use sqlite_items::Items;
 use std::alloc::{AllocError, Global};
 use vx_model::{NoNumber, RunError, STRING_BYTES, difference, product, quotient, rest, sum};
@@ -43,7 +43,8 @@ pub enum Joined {
 
 impl<'a> Machine<'a> {
     // Performs a primitive of two operands, which makes no string.
-    fn two(&mut self, ready: &Ready<'a>, number: u8) -> Result<Step, AllocError>
+    #[inline(always)]
+    fn two(&mut self, alloc: Global, ready: &Ready<'a>, number: u8) -> Result<Step, AllocError>
         requires operands { 2 ≤ length self.old.stacked.running.operands }
         requires number { number ≤ 9 }
         requires other { number ≡ 8 → ⊥ }
@@ -61,12 +62,13 @@ impl<'a> Machine<'a> {
                 self.activations.push(word)?;
                 Ok(Step::On)
             }
-            Answer::Breaks(error) => Ok(Step::Stops(error)),
+            Answer::Breaks(error) => Ok(Step::Stops(apart(alloc, error)?)),
             Answer::Finds => Ok(Step::Finds),
         }
     }
 
     // Prints a line and answers `nil`.
+    #[inline(never)]
     fn print(&mut self, alloc: Global, ready: &Ready<'a>, number: u8) -> Result<Step, AllocError>
         requires operands { 1 ≤ length self.old.stacked.running.operands }
         requires from { 10 ≤ number }
@@ -89,7 +91,13 @@ impl<'a> Machine<'a> {
     }
 
     // Evaluates the closure that lies below its arguments.
-    fn evaluate_top(&mut self, ready: &Ready<'a>, count: u8) -> Result<Step, AllocError>
+    #[inline(always)]
+    fn evaluate_top(
+        &mut self,
+        alloc: Global,
+        ready: &Ready<'a>,
+        count: u8,
+    ) -> Result<Step, AllocError>
         requires { count + 1 ≤ length self.old.stacked.running.operands }
         ensures does { Performs ready.now evaluate (count + 1) result self.old self.new }
         ensures later { IsLater self.old self.new }
@@ -98,13 +106,13 @@ impl<'a> Machine<'a> {
             return Ok(Step::Lacks);
         };
         match closure_of(word) {
-            Some(closure) => self.evaluate(ready, closure, count),
+            Some(closure) => self.evaluate(alloc, ready, closure, count),
             None => Ok(Step::Finds),
         }
     }
 
     // Repeats the closure that is on top.
-    fn repeat_top(&mut self, ready: &Ready<'a>) -> Result<Step, AllocError>
+    fn repeat_top(&mut self, alloc: Global, ready: &Ready<'a>) -> Result<Step, AllocError>
         requires { 1 ≤ length self.old.stacked.running.operands }
         ensures does { Performs ready.now repeat 1 result self.old self.new }
         ensures later { IsLater self.old self.new }
@@ -113,12 +121,13 @@ impl<'a> Machine<'a> {
             return Ok(Step::Lacks);
         };
         match closure_of(word) {
-            Some(closure) => self.repeat(ready, closure),
+            Some(closure) => self.repeat(alloc, ready, closure),
             None => Ok(Step::Finds),
         }
     }
 
     // Joins two strings.
+    #[inline(never)]
     fn join(&mut self, alloc: Global) -> Result<Step, AllocError>
         requires { 2 ≤ length self.old.stacked.running.operands }
         ensures does { (image : Image) → Performs image (performed (truth image.own) 8) 2 result self.old self.new }
@@ -132,7 +141,7 @@ impl<'a> Machine<'a> {
         };
         match join_of(alloc, self.texts.as_slice(), a, b)? {
             Joined::Finds => Ok(Step::Finds),
-            Joined::TooLong => Ok(Step::Stops(RunError::StringLimit)),
+            Joined::TooLong => Ok(Step::Stops(apart(alloc, RunError::StringLimit)?)),
             Joined::Text(bytes) => {
                 let place = self.texts.len();
                 self.texts.push(bytes)?;
@@ -143,6 +152,7 @@ impl<'a> Machine<'a> {
     }
 
     // Performs the primitive of the number, whose operands are there.
+    #[inline(always)]
     fn perform(&mut self, alloc: Global, ready: &Ready<'a>, number: u8) -> Result<Step, AllocError>
         requires known { number ≤ 17 }
         requires operands { count_of number ≤ length self.old.stacked.running.operands }
@@ -153,17 +163,18 @@ impl<'a> Machine<'a> {
             8 => self.join(alloc),
             10 => self.print(alloc, ready, 10),
             11 => self.print(alloc, ready, 11),
-            12 => self.evaluate_top(ready, 0),
-            13 => self.evaluate_top(ready, 1),
-            14 => self.evaluate_top(ready, 2),
-            15 => self.evaluate_top(ready, 3),
-            16 => self.evaluate_top(ready, 4),
-            17 => self.repeat_top(ready),
-            _ => self.two(ready, number),
+            12 => self.evaluate_top(alloc, ready, 0),
+            13 => self.evaluate_top(alloc, ready, 1),
+            14 => self.evaluate_top(alloc, ready, 2),
+            15 => self.evaluate_top(alloc, ready, 3),
+            16 => self.evaluate_top(alloc, ready, 4),
+            17 => self.repeat_top(alloc, ready),
+            _ => self.two(alloc, ready, number),
         }
     }
 
     /// Performs the primitive of the number, if it takes so many operands.
+    #[inline(always)]
     pub fn perform_top(
         &mut self,
         alloc: Global,
@@ -185,6 +196,7 @@ impl<'a> Machine<'a> {
     }
 
     /// Performs the primitive that an instruction names.
+    #[inline(always)]
     pub fn prim(&mut self, alloc: Global, ready: &Ready<'a>, number: u8) -> Result<Step, AllocError>
         ensures does { Did ready.now (instrs.Prim number) result self.old self.new }
         ensures later { IsLater self.old self.new }
@@ -198,6 +210,7 @@ impl<'a> Machine<'a> {
 }
 
 // How many operands an instruction takes for the primitive of the number: none where there is no such primitive.
+#[inline(always)]
 fn count_of(number: u8) -> usize
     ensures { result ≡ count_of number }
 {
@@ -208,6 +221,7 @@ fn count_of(number: u8) -> usize
 }
 
 // How many operands the primitive of the number takes.
+#[inline(always)]
 fn wanted(number: u8) -> Option<usize>
     ensures { result ≡ slice_get counts number }
 {
@@ -226,6 +240,7 @@ fn wanted(number: u8) -> Option<usize>
 }
 
 // What a primitive makes of two words.
+#[inline(always)]
 fn answer_of<'a>(
     ready: &Ready<'a>,
     texts: &[Items<u8>],
@@ -248,6 +263,7 @@ fn answer_of<'a>(
 }
 
 // Whether two strings have the same bytes.
+#[inline(never)]
 fn same_string<'a>(ready: &Ready<'a>, texts: &[Items<u8>], a: Word<'a>, b: Word<'a>) -> Answer<'a>
     requires first { IsWordSound (length texts.now) a }
     requires second { IsWordSound (length texts.now) b }
@@ -261,6 +277,7 @@ fn same_string<'a>(ready: &Ready<'a>, texts: &[Items<u8>], a: Word<'a>, b: Word<
 }
 
 // Whether two words are the same number, the same bytes, the same closure or the same object.
+#[inline(never)]
 fn same_value<'a>(texts: &[Items<u8>], a: Word<'a>, b: Word<'a>) -> bool
     requires first { IsWordSound (length texts.now) a }
     requires second { IsWordSound (length texts.now) b }
@@ -312,6 +329,7 @@ fn bytes_of<'b>(texts: &'b [Items<u8>], word: Word<'b>) -> Option<&'b [u8]>
 }
 
 // The closure that a word is.
+#[inline(always)]
 fn closure_of(word: Word<'_>) -> Option<usize>
     ensures { result ≡ closure_of word.entry }
 {
@@ -322,6 +340,7 @@ fn closure_of(word: Word<'_>) -> Option<usize>
 }
 
 // What a primitive of two numbers makes of two words.
+#[inline(always)]
 fn number_of<'a>(ready: &Ready<'a>, number: u8, a: Word<'a>, b: Word<'a>) -> Answer<'a>
     requires { number ≤ 6 }
     ensures sound { IsAnswerSound result }
@@ -408,6 +427,7 @@ fn appended(alloc: Global, a: &[u8], b: &[u8]) -> Result<Joined, AllocError>
 }
 
 // The two numbers that two words are.
+#[inline(always)]
 fn two_numbers(a: Word<'_>, b: Word<'_>) -> Option<(i128, i128)>
     ensures { (texts : Texts) → result ≡ two_numbers (two_of texts a.entry b.entry) }
 {
@@ -418,6 +438,7 @@ fn two_numbers(a: Word<'_>, b: Word<'_>) -> Option<(i128, i128)>
 }
 
 // What comes of a number, or of why there is none.
+#[inline(always)]
 fn numbered<'a>(number: Result<i128, NoNumber>) -> Answer<'a>
     ensures sound { IsAnswerSound result }
     ensures is { (texts : Texts) → deed_of texts result ≡ numbered number }
@@ -430,6 +451,7 @@ fn numbered<'a>(number: Result<i128, NoNumber>) -> Answer<'a>
 }
 
 // The object that a truth value is.
+#[inline(always)]
 fn truth<'a>(ready: &Ready<'a>, holds: bool) -> Word<'a>
     ensures sound { (texts : ℕ) → IsWordSound texts result }
     ensures is { (texts : Texts) → value_of texts result ≡ truth ready.now.own holds }

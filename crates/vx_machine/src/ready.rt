@@ -11,7 +11,7 @@ ghost use Rattle.vx_format.specs.Layout.{is_image};
 ghost use Rattle.vx_machine.specs.Meaning.{IsFine, Texts, beats_in, things_of, value_of};
 ghost use Rattle.vx_machine.specs.Opening.{rising};
 
-use crate::dispatch::masks;
+use crate::dispatch::rows_left;
 use crate::truths::Truths;
 use crate::word::{Object, Word};
 use sqlite_items::{Items, at};
@@ -19,7 +19,7 @@ use std::alloc::{AllocError, Global};
 use std::marker::Model;
 use vx_format::{Block, ClassMask, Image, Position, Row, Slot, Table};
 use vx_image::names_are_names;
-use vx_tables::{Picked, pick};
+use vx_tables::{Picked, pick_left};
 
 /// An image with what its rows beat, table by table, and whether all classes rise, which contracts see as the image.
 #[derive(Drop)]
@@ -54,6 +54,7 @@ impl<'a> Ready<'a> {
     }
 
     /// The image.
+    #[inline(always)]
     pub fn image(&self) -> &'a Image
         ensures image { result.now ≡ self.now }
         ensures fine { IsFine self.now }
@@ -62,6 +63,7 @@ impl<'a> Ready<'a> {
     }
 
     /// The block of a code.
+    #[inline(always)]
     pub fn block(&self, code: u32, block: u32) -> Option<&'a Block>
         ensures { option_copied result ≡ block_at self.now code block }
     {
@@ -73,6 +75,7 @@ impl<'a> Ready<'a> {
     }
 
     /// The slots of an object of the image, as they are at first.
+    #[inline(always)]
     pub fn shape(&self, class: u32) -> Option<&'a Items<Slot>>
         ensures { option_copied result ≡ slice_get self.now.shapes class }
     {
@@ -81,6 +84,7 @@ impl<'a> Ready<'a> {
     }
 
     /// The table of a place.
+    #[inline(always)]
     pub fn table(&self, t: u32) -> Option<&'a Table>
         ensures table { option_copied result ≡ slice_get self.now.tables t }
         ensures name { (own : Table) → option_copied result ≡ Some own → IsName own.name }
@@ -90,6 +94,7 @@ impl<'a> Ready<'a> {
     }
 
     /// What a table makes of values, on from a row where there is one.
+    #[inline(always)]
     pub fn picked(
         &self,
         t: u32,
@@ -98,7 +103,6 @@ impl<'a> Ready<'a> {
         words: &[Word<'_>],
         below: Option<u8>,
         truths: &mut Truths,
-        found: &mut Vec<u128>,
     ) -> Result<Picked, AllocError>
         requires table { slice_get self.now.tables t ≡ Some table.now }
         requires row { IfSome below (λ row. row < length table.now.rows) }
@@ -106,11 +110,9 @@ impl<'a> Ready<'a> {
             → picked ≡ dispatched self.now (things_of texts objects.entry.now) table.now (map (value_of texts) words.entry.now) below) }
     {
         let positions = table.positions.as_slice();
-        masks(
-            self.image, objects, words, positions, self.rise, truths, found,
-        )?;
+        let left = rows_left(self.image, objects, words, positions, self.rise, truths)?;
         let beats = self.beats.as_slice();
-        Ok(pick(beats[t as usize].as_slice(), found.as_slice(), below))
+        Ok(pick_left(beats[t as usize].as_slice(), left, below))
     }
 }
 

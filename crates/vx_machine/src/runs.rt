@@ -39,7 +39,7 @@ impl<'a> Machine<'a> {
             match self.step(alloc, ready)? {
                 Step::On => {}
                 Step::Over => return Ok(Ending::End),
-                Step::Stops(error) => return Ok(Ending::Error(error)),
+                Step::Stops(error) => return Ok(Ending::Error(error.into_inner())),
                 Step::Lacks => {
                     self.lines.truncate(count);
                     return Ok(Ending::Stuck);
@@ -85,9 +85,8 @@ fn run_ready(alloc: Global, ready: &Ready<'_>, n: u32) -> Result<Report, AllocEr
     let image = ready.image();
     let objects = objects(alloc, &image.own, image.shapes.as_slice())?;
     let mut truths = Truths::new(alloc);
-    let mut masks = Vec::new(alloc);
     let none = Items::new(alloc);
-    match begin(alloc, ready, objects.as_slice(), &mut truths, &mut masks)? {
+    match begin(alloc, ready, objects.as_slice(), &mut truths)? {
         Begun::Lacks => Ok(Report::Stuck(none)),
         Begun::Stops(error) => Ok(stopped(n, none, error)),
         Begun::Runs(activations) => {
@@ -104,7 +103,6 @@ fn run_ready(alloc: Global, ready: &Ready<'_>, n: u32) -> Result<Report, AllocEr
                 next: 1,
                 lines: Vec::new(alloc),
                 truths,
-                masks,
             };
             let ending = machine.go(alloc, ready, n - 1)?;
             Ok(reported(ending, Items::from_vec(machine.lines)))

@@ -16,7 +16,7 @@ use crate::classes::class_of;
 use crate::dispatch::taken;
 use crate::machine::Machine;
 use crate::ready::Ready;
-use crate::word::{Led, Step, Word};
+use crate::word::{Led, Step, Word, apart};
 use sqlite_items::at;
 use std::alloc::{AllocError, Global};
 use vx_format::{Does, Split, Table};
@@ -26,6 +26,7 @@ use vx_tables::Picked;
 
 impl<'a> Machine<'a> {
     // What a table makes of the topmost operands, on from a row where there is one.
+    #[inline(always)]
     fn picked(
         &mut self,
         ready: &Ready<'a>,
@@ -43,18 +44,11 @@ impl<'a> Machine<'a> {
     {
         let words = self.activations.arguments(count);
         let objects = self.objects.as_slice();
-        ready.picked(
-            t,
-            table,
-            objects,
-            words,
-            below,
-            &mut self.truths,
-            &mut self.masks,
-        )
+        ready.picked(t, table, objects, words, below, &mut self.truths)
     }
 
     /// Sends a message to a table. A primitive is left to be performed.
+    #[inline(always)]
     pub fn send(&mut self, alloc: Global, ready: &Ready<'a>, t: u32) -> Result<Led, AllocError>
         requires room { self.old.next + 1 < 2 ^ 64 }
         ensures does { Acts ready.now (instrs.Send t) (arity_of ready.now t) result self.old self.new }
@@ -94,6 +88,7 @@ impl<'a> Machine<'a> {
     }
 
     /// Sends a message to a table, and performs the primitive that it finds, if it is one.
+    #[inline(always)]
     pub fn perform_send(
         &mut self,
         alloc: Global,
@@ -129,6 +124,7 @@ impl<'a> Machine<'a> {
     }
 
     /// Finds a row for the topmost operands, on from a row where there is one, and does what it says.
+    #[inline(always)]
     pub fn find(
         &mut self,
         alloc: Global,
@@ -157,6 +153,7 @@ impl<'a> Machine<'a> {
     }
 
     // Does what a row says with the topmost operands, but performs no primitive.
+    #[inline(always)]
     fn lead(
         &mut self,
         alloc: Global,
@@ -183,6 +180,7 @@ impl<'a> Machine<'a> {
     }
 
     // The code that a row enters for the class of an argument, or nothing where there is no such argument.
+    #[inline(always)]
     fn cloned(&self, ready: &Ready<'a>, code: u32, split: &Split, count: usize) -> Option<u32>
         requires { count ≤ length self.now.stacked.running.operands }
         ensures { (all : Whole) → (table : Table) → target_of ready.now table (deeds.Code code (Some split.now)) all count self.now ≡ to_code result }
@@ -198,6 +196,7 @@ impl<'a> Machine<'a> {
     }
 
     /// Enters the code of a row that depends on the class of an argument.
+    #[inline(always)]
     pub fn split(
         &mut self,
         ready: &Ready<'a>,
@@ -217,6 +216,7 @@ impl<'a> Machine<'a> {
     }
 
     // Whether the operand that has so many above it is an object.
+    #[inline(always)]
     fn is_object(&self, depth: usize) -> bool
         ensures { result ≡ is_object (slice_get self.now.stacked.running.operands depth) }
     {
@@ -231,6 +231,7 @@ impl<'a> Machine<'a> {
     }
 
     /// Reads a field of the argument, as a row says.
+    #[inline(always)]
     pub fn get_of(
         &mut self,
         alloc: Global,
@@ -249,7 +250,7 @@ impl<'a> Machine<'a> {
         }
         if !self.is_object(0) {
             let name = name_of(alloc, table.name.as_slice())?;
-            return Ok(Step::Stops(RunError::NoField(name)));
+            return Ok(Step::Stops(apart(alloc, RunError::NoField(name))?));
         }
         self.get_top(ready, field)
     }
@@ -273,31 +274,34 @@ impl<'a> Machine<'a> {
         }
         if !self.is_object(1) {
             let name = name_of(alloc, set_name(table.name.as_slice()))?;
-            return Ok(Step::Stops(RunError::NoField(name)));
+            return Ok(Step::Stops(apart(alloc, RunError::NoField(name))?));
         }
         self.set_top(ready, field)
     }
 
     /// The run stops: no row of the table takes the arguments.
+    #[inline(never)]
     pub fn not_understood(&self, alloc: Global, table: &Table) -> Result<Step, AllocError>
         requires { IsName table.now.name }
         ensures { (image : Image) → (count : _) → Reached image (ToError (errors.NotUnderstood (selector_of table.now))) count result self.now self.now }
     {
         let selector = selector(alloc, table)?;
-        Ok(Step::Stops(RunError::NotUnderstood(selector)))
+        Ok(Step::Stops(apart(alloc, RunError::NotUnderstood(selector))?))
     }
 
     /// The run stops: more than one row of the table takes the arguments.
+    #[inline(never)]
     pub fn ambiguous(&self, alloc: Global, table: &Table) -> Result<Step, AllocError>
         requires { IsName table.now.name }
         ensures { (image : Image) → (count : _) → Reached image (ToError (errors.Ambiguous (selector_of table.now))) count result self.now self.now }
     {
         let selector = selector(alloc, table)?;
-        Ok(Step::Stops(RunError::Ambiguous(selector)))
+        Ok(Step::Stops(apart(alloc, RunError::Ambiguous(selector))?))
     }
 }
 
 // How many operands a table takes, or none where it is missing.
+#[inline(always)]
 fn arity_of(ready: &Ready<'_>, t: u32) -> usize
     ensures { result ≡ arity_of ready.now t }
 {
@@ -308,6 +312,7 @@ fn arity_of(ready: &Ready<'_>, t: u32) -> usize
 }
 
 /// The code for a class, its first entry counting, or the row's own.
+#[inline(always)]
 pub fn clone_for(code: u32, class: Option<u32>, pairs: &[(u32, u32)]) -> u32
     ensures { result ≡ clone_for code class pairs.now }
 {

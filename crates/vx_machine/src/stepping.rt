@@ -12,6 +12,7 @@ use vx_format::Instr;
 
 impl<'a> Machine<'a> {
     /// Takes and does the next instruction. Where none is left, the state lacks it.
+    #[inline(always)]
     pub fn step(&mut self, alloc: Global, ready: &Ready<'a>) -> Result<Step, AllocError>
         requires room { self.old.next + 1 < 2 ^ 64 }
         ensures does { Steps ready.now result self.old self.new }
@@ -24,6 +25,7 @@ impl<'a> Machine<'a> {
     }
 
     // Does an instruction.
+    #[inline(always)]
     fn act(
         &mut self,
         alloc: Global,
@@ -54,7 +56,7 @@ impl<'a> Machine<'a> {
             Instr::New(class, fields) => self.make(alloc, ready, *class, fields.as_slice()),
             Instr::Pop => self.pop(),
             Instr::Ret => self.leave(ready),
-            Instr::Home => self.leave_home(),
+            Instr::Home => self.leave_home(alloc),
             Instr::Mark => self.mark(),
             Instr::Fail(kind, name, arity) => self.fail(alloc, *kind, name.as_slice(), *arity),
         }

@@ -1,5 +1,8 @@
 //! What the stacks hold, and what is kept of activations, closures and objects.
-use sqlite_items::Items;
+ghost use Rattle.std.specs.Prelude.{◌≡◌, IfOk};
+
+use sqlite_items::{Boxed, Items};
+use std::alloc::{AllocError, Global};
 use vx_format::Instr;
 use vx_model::RunError;
 
@@ -81,7 +84,7 @@ pub struct Object<'a> {
     pub slots: Items<(u32, Word<'a>)>,
 }
 
-/// What an instruction led to.
+/// What an instruction led to. Few words, since every step answers one: an error, which comes once in a run, lies apart.
 #[derive(Drop)]
 pub enum Step {
     /// The run goes on.
@@ -93,7 +96,7 @@ pub enum Step {
     /// It found an operand of a wrong class, or an object without the slot.
     Finds,
     /// The run stops.
-    Stops(RunError),
+    Stops(Boxed<RunError>),
 }
 
 /// What the row that a message found led to.
@@ -103,4 +106,13 @@ pub enum Led {
     Done(Step),
     /// It is a primitive, which is left to be performed.
     Perform(u8),
+}
+
+/// An error in a place of its own, which no run reaches twice.
+#[cold]
+#[inline(never)]
+pub fn apart(alloc: Global, error: RunError) -> Result<Boxed<RunError>, AllocError>
+    ensures { IfOk result (λ boxed. boxed ≡ error) }
+{
+    Boxed::new(alloc, error)
 }

@@ -43,14 +43,12 @@ all_snoc f [] x = and_true_end (f x)
 all_snoc f (y ∷ xs) x = rw (all_snoc f xs x) (sym (and_assoc (f y) (list_all f xs) (f x)))
 
 -- one mask more
-pub one_more : (left from : ℕ) (masks : List ℕ) (k : ℕ) → k < length masks →
-    ((i : ℕ) → has left i ≡ (has from i && list_all (λ mask. has mask i) (take k masks)))
-    → (i : ℕ) → has (bit_and left (get_or masks k 0)) i ≡ (has from i && list_all (λ mask. has mask i) (take (k + 1) masks))
-one_more left from masks k lt so_far i =
-    has_and left (get_or masks k 0) i ∙ ap (λ b. b && has (get_or masks k 0) i) (so_far i) ∙
-    and_assoc (has from i) (list_all (λ mask. has mask i) (take k masks)) (has (get_or masks k 0) i)
-    ∙ ap (λ b. has from i && b) (sym (all_snoc (λ mask. has mask i) (take k masks) (get_or masks k 0)) ∙
-    ap (λ (t : List ℕ). list_all (λ mask. has mask i) t) (sym (take_more masks k 0 lt)))
+pub one_more : (left : ℕ) (masks : List ℕ) (k i : ℕ) → k < length masks → has left i ≡ list_all (λ mask. has mask i) (take k masks)
+    → has (bit_and left (get_or masks k 0)) i ≡ list_all (λ mask. has mask i) (take (k + 1) masks)
+one_more left masks k i lt so_far =
+    has_and left (get_or masks k 0) i ∙ ap (λ b. b && has (get_or masks k 0) i) so_far
+    ∙ sym (all_snoc (λ mask. has mask i) (take k masks) (get_or masks k 0))
+    ∙ ap (λ (t : List ℕ). list_all (λ mask. has mask i) t) (sym (take_more masks k 0 lt))
 
 beaten_is : (beats : List ℕ) (row : ℕ) → beaten beats row ≡ get_or beats row 0
 beaten_is [] zero = refl

@@ -10,4 +10,4 @@ mod picking;
 
 pub use laws::masks_pick_what_lookup_finds;
 pub use picked::Picked;
-pub use picking::{has, pick};
+pub use picking::{has, pick, pick_left};

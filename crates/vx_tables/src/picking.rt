@@ -1,5 +1,5 @@
 //! The row of a table that a message takes.
-ghost use Rattle.std.specs.Prelude.{◌≡◌, ℕ, ◌<◌, ◌≤◌, ◌&&◌, ◌==◌, true, false, length, bit_and, IfSome};
+ghost use Rattle.std.specs.Prelude.{◌≡◌, ℕ, ◌<◌, ◌≤◌, ◌&&◌, ◌==◌, true, false, List, length, bit_and, IfSome};
 ghost use Rattle.std.specs.List.{list_all};
 ghost use Rattle.vx_tables.specs.Masks.{has, is_below, picked};
 ghost use Rattle.vx_tables.specs.Scans.{scanned};
@@ -27,11 +27,11 @@ fn first_rows(count: usize) -> u128
     }
 }
 
-// What all masks have of it.
-fn in_all(left: u128, masks: &[u128]) -> u128
-    ensures { (i : ℕ) → has result i ≡ (has left i && list_all (λ mask. has mask i) masks.now) }
+// What all masks have.
+fn in_all(masks: &[u128]) -> u128
+    ensures { (i : ℕ) → i < 128 → has result i ≡ list_all (λ mask. has mask i) masks.now }
 {
-    let mut left = left;
+    let mut left = u128::MAX;
     for mask in masks {
         left &= *mask;
     }
@@ -73,16 +73,25 @@ fn counted(beats: &[u128], below: Option<u8>) -> u128
     }
 }
 
-/// The first of the rows left that beats all that are left. The rows left are those that each mask has; where the message is sent on from a row, only
-/// those that this row beats, and not the row itself.
+/// The first of the rows left that beats all that are left. The rows left are those of the mask, which has what all masks have in common; where the message is
+/// sent on from a row, only those that this row beats, and not the row itself.
+pub fn pick_left(beats: &[u128], left: u128, below: Option<u8>) -> Picked
+    requires rows { length beats.now ≤ 128 }
+    requires there { IfSome below (λ row. row < length beats.now) }
+    ensures { (masks : List ℕ) → ((i : ℕ) → i < length beats.now → has left i ≡ list_all (λ mask. has mask i) masks) → result ≡ picked beats.now masks below }
+{
+    let left = counted(beats, below) & left;
+    if left == 0 {
+        return Picked::None;
+    }
+    scan(beats, left)
+}
+
+/// As `pick_left`, of the masks one by one.
 pub fn pick(beats: &[u128], masks: &[u128], below: Option<u8>) -> Picked
     requires rows { length beats.now ≤ 128 }
     requires there { IfSome below (λ row. row < length beats.now) }
     ensures { result ≡ picked beats.now masks.now below }
 {
-    let left = in_all(counted(beats, below), masks);
-    if left == 0 {
-        return Picked::None;
-    }
-    scan(beats, left)
+    pick_left(beats, in_all(masks), below)
 }

@@ -11,8 +11,9 @@ returns-in-Over c = ends_over c.args.ready.now c.args.n c.loop-done.done c.args.
 
 pub returns-in-Stops : goal.returns-in-Stops
 returns-in-Stops c =
-    ends_stopped c.args.ready.now c.args.n c.loop-done.done c.args.self.now c.loop-done.self c.step.new.self c.in-Stops.error c.loop-done.invariant
-    c.loop-done-test.true (record { later = c.step.ensures.later; does = λ all covers. rw c.in-Stops.is at (c.in_ok-step.ensures.does all covers) })
+    rw c.into_inner.ensures
+    (ends_stopped c.args.ready.now c.args.n c.loop-done.done c.args.self.now c.loop-done.self c.step.new.self c.in-Stops.error c.loop-done.invariant
+    c.loop-done-test.true (record { later = c.step.ensures.later; does = λ all covers. rw c.in-Stops.is at (c.in_ok-step.ensures.does all covers) }))
 
 pub returns-in-Lacks : goal.returns-in-Lacks
 returns-in-Lacks c =

@@ -31,14 +31,15 @@ returns-in-Finds-clause-does c = λ image all covers.
     two_deed image (performed (truth image.own) 8) all (kept_of c.self.inside) c.args.self.now c.pop-2.new.self c.in-Some-pop.a c.in-Some.b deeds.Lacks
     c.self.view_is old what
 
-pub returns-in-TooLong-clause-does : goal.returns-in-TooLong-clause-does
-returns-in-TooLong-clause-does c = λ image all covers.
+pub returns-in_ok-apart-in-TooLong-clause-does : goal.returns-in_ok-apart-in-TooLong-clause-does
+returns-in_ok-apart-in-TooLong-clause-does c = λ image all covers.
     let old : c.self.inside.activations ≡ pushed c.in-Some.b (pushed c.in-Some-pop.a c.pop-2.new.self) =
     c.in-Some.ensures ∙ ap (pushed c.in-Some.b) c.in-Some-pop.ensures in
     let what : deeds.Breaks e.StringLimit ≡ performed (truth image.own) 8 (two_of all.texts c.in-Some-pop.a c.in-Some.b) =
     rw c.in-TooLong.is at (c.in_ok-join_of.ensures all.texts (truth image.own) (rw c.as_slice.ensures covers.0)) in
-    two_deed image (performed (truth image.own) 8) all (kept_of c.self.inside) c.args.self.now c.pop-2.new.self c.in-Some-pop.a c.in-Some.b
-    (deeds.Breaks e.StringLimit) c.self.view_is old what
+    rw c.in_ok-apart-in-TooLong.ensures
+    (two_deed image (performed (truth image.own) 8) all (kept_of c.self.inside) c.args.self.now c.pop-2.new.self c.in-Some-pop.a c.in-Some.b
+    (deeds.Breaks e.StringLimit) c.self.view_is old what)
 
 pub returns-in_ok-push-in-Text-2-clause-does : goal.returns-in_ok-push-in-Text-2-clause-does
 returns-in_ok-push-in-Text-2-clause-does c = λ image all covers.

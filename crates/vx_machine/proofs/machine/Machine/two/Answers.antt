@@ -11,14 +11,15 @@ use Rattle.std.proofs.Common.{length}
 use Rattle.vx_machine.proofs.Sound.{pops, pushes}
 use Rattle.vx_machine.proofs.machine.Machine.two.Goals as goal
 
-pub returns-in-Breaks-clause-does : goal.returns-in-Breaks-clause-does
-returns-in-Breaks-clause-does c = λ all covers.
+pub returns-in_ok-apart-in-Breaks-clause-does : goal.returns-in_ok-apart-in-Breaks-clause-does
+returns-in_ok-apart-in-Breaks-clause-does c = λ all covers.
     let old : c.self.inside.activations ≡ pushed c.in-Some.b (pushed c.in-Some-pop.a c.pop-2.new.self) =
     c.in-Some.ensures ∙ ap (pushed c.in-Some.b) c.in-Some-pop.ensures in
     let what : deeds.Breaks c.in-Breaks.error ≡ performed (truth c.args.ready.now.own) c.args.number (two_of all.texts c.in-Some-pop.a c.in-Some.b) =
     rw c.in-Breaks.is at (c.answer_of.ensures.is all.texts (rw c.as_slice.ensures covers.0)) in
-    two_deed c.args.ready.now (performed (truth c.args.ready.now.own) c.args.number) all
-    (kept_of c.self.inside) c.args.self.now c.pop-2.new.self c.in-Some-pop.a c.in-Some.b (deeds.Breaks c.in-Breaks.error) c.self.view_is old what
+    rw c.in_ok-apart-in-Breaks.ensures
+    (two_deed c.args.ready.now (performed (truth c.args.ready.now.own) c.args.number) all
+    (kept_of c.self.inside) c.args.self.now c.pop-2.new.self c.in-Some-pop.a c.in-Some.b (deeds.Breaks c.in-Breaks.error) c.self.view_is old what)
 
 pub returns-in-Finds-clause-does : goal.returns-in-Finds-clause-does
 returns-in-Finds-clause-does c = λ all covers.

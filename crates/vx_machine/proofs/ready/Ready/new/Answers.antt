@@ -1,4 +1,4 @@
-use Rattle.std.proofs.Common.{◌∙◌, sym, ap}
+use Rattle.std.proofs.Common.{◌∙◌, sym}
 use Rattle.vx_machine.proofs.Fine.{all_rise, fine}
 use Rattle.vx_machine.proofs.ready.Ready.new.Goals as goal
 
