@@ -1,2 +1,10 @@
 pub mod Declared
 pub mod Sorting
+pub mod Speaking
+pub mod Sayings
+pub mod HeadsSaid
+pub mod Agreeing
+pub mod Telling
+pub mod ToldAll
+pub mod Heard
+pub mod InOrder

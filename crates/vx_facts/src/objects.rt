@@ -93,7 +93,8 @@ fn children_among(
     Ok(children)
 }
 
-fn is_one(names: &[Name], x: &[u8]) -> bool
+/// Whether one of the names has these bytes.
+pub fn is_one(names: &[Name], x: &[u8]) -> bool
     ensures { result ≡ is_name_of names.now x.now }
 {
     for name in names {
