@@ -181,7 +181,9 @@ heads_told_beside key start other_start changeable can selector =
                   | inl c ↦
                       inr (inr (ap (by_field key (is_method_of selector (k.Method (getter key))))
                       (t ∙ sym (and_from can (is_method_of selector (k.Method (setter key))) c both.1))))
-                  | inr c ↦ inl (setter_told key changeable (Some (d.Field key other_start can)) selector (and_from changeable (not can) both.0 (ap not c)) both.1)
+                  | inr c ↦
+                      let alone = and_from changeable (not can) both.0 (ap not c) in
+                      inl (setter_told key changeable (Some (d.Field key other_start can)) selector alone both.1)
                 ]
             | inr g ↦ inr (inl (ap (λ b. by_field key b (changeable && sets)) f ∙ ap (λ b. by_field key false b) g))
           ]
