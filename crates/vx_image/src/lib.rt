@@ -1,7 +1,7 @@
 //! Images from their bytes.
 //!
 //! [`load`] tells whether bytes are an image, of either version, or the first fault in them from left to right. A [`Loaded`] image tells its parts by
-//! their places. [`upgrade`] and [`narrow`] give the same image in the other version.
+//! their places. [`upgrade`] and [`narrow`] give the same image in the other version. [`link`], from the crate below, makes an image of units.
 #![tactic(auto)]
 
 mod codes;
@@ -29,3 +29,4 @@ pub use loaded::{Loaded, load};
 pub use names::names_are_names;
 pub use versions::{NarrowFault, narrow, upgrade};
 pub use views::{BlockHead, Initial, Row};
+pub use vx_link::{LinkFault, Roster, Units, link};
