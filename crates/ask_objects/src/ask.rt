@@ -1,5 +1,6 @@
 ghost use Rattle.vx_program.specs.Apply.{IsWritable};
 
+use crate::asked::{names_of, told_of};
 use crate::declared::told;
 use crate::order::{base_text, count, field_text, names_text, slots_text};
 use crate::sends::{class_text, found, holds_text, kinds_text};
@@ -7,7 +8,6 @@ use crate::trouble::{Trouble, clear};
 use std::alloc::Global;
 use vx_cases::Case;
 use vx_names::Name;
-use vx_order::{cone, up};
 use vx_program::{Edit, Program};
 use vx_reader::{Command, read_block};
 use vx_syntax::print_decl;
@@ -73,11 +73,12 @@ pub fn named(alloc: Global, word: &str) -> Result<Name, Trouble> {
 fn answer(alloc: Global, program: &Program, question: &str) -> Result<String, Trouble> {
     let (verb, words) = question.split_once(' ').unwrap_or((question, ""));
     match verb {
-        "up" => names_text(alloc, up(alloc, program, &named(alloc, words)?)?.as_slice()),
-        "cone" => names_text(
-            alloc,
-            cone(alloc, program, &named(alloc, words)?)?.as_slice(),
-        ),
+        "up" | "cone" => {
+            let names = names_of(alloc, program, verb, &named(alloc, words)?)?;
+            names_text(alloc, names.as_slice())
+        }
+        "reads" => told_of(alloc, program, verb, words),
+        "inline" => told_of(alloc, program, verb, question),
         "base" => base_text(alloc, program, words),
         "slots" => slots_text(alloc, program, words),
         "field" => field_text(alloc, program, words),

@@ -4,6 +4,8 @@
 //! declarations of its own. Each question is printed with its answer behind `->`.
 //!
 //! - `up O`, `cone O`, `base O`: the names above O, those of the plain objects below it, and its base;
+//! - `inline M(@O,@O)`: what is put in place of sends that are bound to the method, or none;
+//! - `reads up O`, `reads cone O`, `reads base O`, `reads inline M(@O)`: what is asked for these;
 //! - `slots C`: the slots of an object of the class, with their starts; `field C F`: the field that the name F means there;
 //! - `count up O`, `count cone O`, `count slots C`: how many there are;
 //! - `class V`: the class of a value; `kinds V`: as which objects and predicates it counts; `holds V O`: whether it counts as O;
@@ -17,6 +19,7 @@
 #![tactic(auto)]
 
 mod ask;
+mod asked;
 mod declared;
 mod order;
 mod sends;

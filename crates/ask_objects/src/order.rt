@@ -1,9 +1,9 @@
 use crate::ask::{named, string};
+use crate::asked::{base_of, names_of};
 use crate::trouble::{Trouble, clear};
 use std::alloc::Global;
 use vx_fields::{field_at, slots};
 use vx_names::{DeclKey, FieldKey, Name};
-use vx_order::{base, cone, up};
 use vx_program::Program;
 use vx_syntax::{Start, key_text};
 
@@ -34,7 +34,7 @@ pub fn names_text(alloc: Global, names: &[Name]) -> Result<String, Trouble> {
 
 /// The base of the object or predicate.
 pub fn base_text(alloc: Global, program: &Program, word: &str) -> Result<String, Trouble> {
-    match base(alloc, program, &named(alloc, word)?)? {
+    match base_of(alloc, program, &named(alloc, word)?)? {
         Some(name) => string(alloc, name.bytes()),
         None => Ok("none".to_string(alloc)?),
     }
@@ -85,8 +85,7 @@ pub fn count(alloc: Global, program: &Program, words: &str) -> Result<String, Tr
     let (verb, word) = words.split_once(' ').unwrap_or((words, ""));
     let name = named(alloc, word)?;
     let count = match verb {
-        "up" => up(alloc, program, &name)?.len(),
-        "cone" => cone(alloc, program, &name)?.len(),
+        "up" | "cone" => names_of(alloc, program, verb, &name)?.len(),
         "slots" => slots(alloc, program, &name)?.len(),
         _ => return Err(Trouble::Unclear),
     };

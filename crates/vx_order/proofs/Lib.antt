@@ -1,4 +1,1 @@
-pub mod Uppers
-pub mod Firsts
-pub mod Below
-pub mod Plains
+pub mod Chaining

@@ -1,54 +1,47 @@
-ghost use Rattle.std.specs.Prelude.{◌≡◌, ◌<◌, Some, true, length, slice_get, IfOk};
-ghost use Rattle.vx_syntax.specs.declared.decl.Decl.{Decl};
-ghost use Rattle.vx_syntax.specs.Expressions.{Bytes};
-ghost use Rattle.vx_program.specs.Program.{is_named, leads};
-ghost use Rattle.vx_model.specs.Order.{cone};
-ghost use Rattle.vx_order.specs.Known.{IsKnown};
+ghost use Rattle.std.specs.Prelude.{◌≡◌};
+ghost use Rattle.vx_node.specs.Askers.{Follows, Learns};
+ghost use Rattle.vx_node.specs.declared.node.NodeId.TheVariants as n;
+ghost use Rattle.vx_node.specs.declared.node.Fact.TheVariants as f;
+ghost use Rattle.vx_answers.specs.OrderRows.{cone_row, is_plain};
 
 use sqlite_items::Items;
-use std::alloc::{AllocError, Global};
+use std::alloc::Global;
 use vx_names::Name;
-use vx_program::{Program, chains_are_found, is_named, parents_of};
-use vx_syntax::Decl;
+use vx_node::{Answer, Asker, Fact, Halt, NodeId, Stands, Tracer};
+use vx_walks::{Way, learn_node, walk};
 
-/// The plain objects that one is above, in byte order. Whether it is above an object is found once, and known to all that
-/// come there, so the calls go as deep as the longest chain of parents.
-pub fn cone(alloc: Global, program: &Program, y: &Name) -> Result<Items<Name>, AllocError>
-    ensures { IfOk result (λ names. names ≡ cone program.now y.now) }
+/// The plain objects that one is above, in byte order.
+pub fn cone<A: Asker>(alloc: Global, t: &mut Tracer<A>, x: &Name) -> Result<Items<Name>, Halt>
+    requires ready { A.ready t.old.asker.now }
+    ensures ready { A.ready t.new.asker.now }
+    ensures same { t.new.asker.ghost_name ≡ t.old.asker.ghost_name }
+    ensures follows { Follows A.manner (cone_row x.now) result t.old.asker.now t.old.trace t.new.asker.now t.new.trace }
 {
-    let decls = program.declarations();
-    let mut known = vec![in alloc; None; decls.len()]?;
-    let mut names = Items::new(alloc);
-    for (place, decl) in decls.iter().enumerate() {
-        if let Decl::Object { name, .. } = decl {
-            if is_below(program, place, y.bytes(), &mut known) {
-                names.push(name.copy(alloc)?)?;
-            }
-        }
+    let at = match learn_there(alloc, t, x) {
+        Ok(at) => at,
+        Err(halt) => return Err(halt),
+    };
+    if is_plain(t.answer(at)) {
+        walk(alloc, t, Way::Downward, x)
+    } else {
+        Ok(Items::new(alloc))
     }
-    Ok(names)
 }
 
-// Whether the object at the place leads to the name.
-fn is_below(program: &Program, place: usize, y: &[u8], known: &mut Vec<Option<bool>>) -> bool
-    requires within { place < length program.now }
-    requires known { IsKnown program.now y.now known.old.items }
-    ensures known { IsKnown program.now y.now known.new.items }
-    ensures leads { (decl : Decl) (x : Bytes) → slice_get program.now place ≡ Some decl → is_named x decl ≡ true → result ≡ leads program.now x y.now }
+fn learn_there<A: Asker>(alloc: Global, t: &mut Tracer<A>, x: &Name) -> Result<usize, Halt>
+    requires ready { A.ready t.old.asker.now }
+    ensures ready { A.ready t.new.asker.now }
+    ensures same { t.new.asker.ghost_name ≡ t.old.asker.ghost_name }
+    ensures learns { Learns A.manner (n.Fact (f.There x.now)) result t.old.asker.now t.old.trace t.new.asker.now t.new.trace }
 {
-    chains_are_found();
-    if let Some(found) = known[place] {
-        return found;
+    learn_node(t, NodeId::Fact(Fact::There(x.copy(alloc)?)))
+}
+
+fn is_plain(answer: &Answer) -> bool
+    ensures { result ≡ is_plain answer.now }
+{
+    match answer {
+        Answer::There(Stands::Plain) => true,
+        _ => false,
     }
-    let decl = &program.declarations()[place];
-    let mut found = is_named(decl, y);
-    for parent in parents_of(decl) {
-        if let Some(up) = program.place(parent.bytes()) {
-            if is_below(program, up, y, known) {
-                found = true;
-            }
-        }
-    }
-    known[place] = Some(found);
-    found
 }

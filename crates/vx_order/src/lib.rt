@@ -1,5 +1,5 @@
-//! What is above a name and below it, and the bases of predicates.
-#![tactic(auto)]
+//! What is above a name and below it, and the bases of predicates, out of what is asked.
+#![tactic(auto, using(vx_node::proofs::Leaving::as_it_is))]
 
 mod bases;
 mod cones;

@@ -1,37 +1,19 @@
-ghost use Rattle.std.specs.Prelude.{◌≡◌, ◌++◌, [], ◌∷◌, IfOk, OnOk};
-ghost use Rattle.vx_model.specs.Order.{object_names, up};
+ghost use Rattle.std.specs.Prelude.{◌≡◌};
+ghost use Rattle.vx_node.specs.Askers.{Follows};
+ghost use Rattle.vx_answers.specs.OrderRows.{up_row};
 
 use sqlite_items::Items;
-use std::alloc::{AllocError, Global};
-use vx_model::Above;
+use std::alloc::Global;
 use vx_names::Name;
-use vx_program::Program;
-use vx_syntax::Decl;
+use vx_node::{Asker, Halt, Tracer};
+use vx_walks::{Way, walk};
 
-/// The names above one, itself among them, in byte order; none where it is not there. Each parent is looked at once.
-pub fn up(alloc: Global, program: &Program, x: &Name) -> Result<Items<Name>, AllocError>
-    ensures { IfOk result (λ names. names ≡ up program.now x.now) }
+/// The names above one, itself among them, in byte order; none where it is not there.
+pub fn up<A: Asker>(alloc: Global, t: &mut Tracer<A>, x: &Name) -> Result<Items<Name>, Halt>
+    requires ready { A.ready t.old.asker.now }
+    ensures ready { A.ready t.new.asker.now }
+    ensures same { t.new.asker.ghost_name ≡ t.old.asker.ghost_name }
+    ensures follows { Follows A.manner (up_row x.now) result t.old.asker.now t.old.trace t.new.asker.now t.new.trace }
 {
-    let mut names = Items::new(alloc);
-    if program.place(x.bytes()).is_none() {
-        return Ok(names);
-    }
-    let above = Above::new(program, x.bytes());
-    for (place, decl) in program.declarations().iter().enumerate() {
-        if above.has(place) {
-            push_name(alloc, &mut names, decl)?;
-        }
-    }
-    Ok(names)
-}
-
-// Puts the name of an object or a predicate on the list.
-fn push_name(alloc: Global, names: &mut Items<Name>, decl: &Decl) -> Result<(), AllocError>
-    ensures { OnOk result (names.new ≡ names.old ++ object_names (decl.now ∷ [])) }
-{
-    match decl {
-        Decl::Object { name, .. } => names.push(name.copy(alloc)?),
-        Decl::Predicate { name, .. } => names.push(name.copy(alloc)?),
-        _ => Ok(()),
-    }
+    walk(alloc, t, Way::Upward, x)
 }

@@ -1,0 +1,121 @@
+//! What a program answers of nodes, and what it reads for them.
+ghost use Rattle.std.specs.Prelude.{◌≡◌, ◌<◌, IfOk};
+ghost use Rattle.vx_node.specs.Nodes.{rank, IsWellFormed};
+
+use crate::ask::{named, string};
+use crate::trouble::Trouble;
+use sqlite_items::Items;
+use std::alloc::Global;
+use vx_answers::Finding;
+use vx_compute::{Made, compute_plain};
+use vx_explain::{answer_text, reads_text};
+use vx_names::{DeclKey, MethodKey, Name};
+use vx_node::{Answer, CountGate, Filter, NodeId};
+use vx_program::{Change, Edit, Program};
+use vx_reader::{Command, read_block};
+
+/// What is found of a filter.
+pub fn found(alloc: Global, program: &Program, node: &NodeId) -> Result<Finding, Trouble>
+    requires well_formed { IsWellFormed node.now }
+    requires found_out { 0 < rank node.now }
+{
+    let mut gate = CountGate::new();
+    match compute_plain(alloc, program, &mut gate, node) {
+        Made::Found(finding) => Ok(finding),
+        Made::OutOfMemory => Err(Trouble::OutOfMemory),
+        other => {
+            drop(other);
+            Err(Trouble::Unclear)
+        }
+    }
+}
+
+/// The names above a name, or of the objects below it.
+pub fn names_of(
+    alloc: Global,
+    program: &Program,
+    verb: &str,
+    x: &Name,
+) -> Result<Items<Name>, Trouble> {
+    let own = x.copy(alloc)?;
+    let finding = match verb {
+        "up" => found(alloc, program, &NodeId::Filter(Filter::Up(own)))?,
+        _ => found(alloc, program, &NodeId::Filter(Filter::Cone(own)))?,
+    };
+    match finding.value().copy(alloc)? {
+        Answer::Up(names) => Ok(names),
+        Answer::Cone(names) => Ok(names),
+        other => {
+            drop(other);
+            Err(Trouble::Unclear)
+        }
+    }
+}
+
+/// The base of an object or a predicate.
+pub fn base_of(alloc: Global, program: &Program, x: &Name) -> Result<Option<Name>, Trouble> {
+    let node = NodeId::Filter(Filter::Base(x.copy(alloc)?));
+    let finding = found(alloc, program, &node)?;
+    match finding.value().copy(alloc)? {
+        Answer::Base(name) => Ok(name),
+        other => {
+            drop(other);
+            Err(Trouble::Unclear)
+        }
+    }
+}
+
+/// What the verb means: the answer of a filter, or what is read for it.
+pub fn told_of(
+    alloc: Global,
+    program: &Program,
+    verb: &str,
+    words: &str,
+) -> Result<String, Trouble> {
+    match verb {
+        "reads" => {
+            let finding = found(alloc, program, &filter_of(alloc, words)?)?;
+            let text = reads_text(alloc, finding.trace().steps())?;
+            string(alloc, text.as_slice())
+        }
+        _ => {
+            let finding = found(alloc, program, &filter_of(alloc, words)?)?;
+            let text = answer_text(alloc, finding.value())?;
+            string(alloc, text.as_slice())
+        }
+    }
+}
+
+// The filter that the words name, as `up a` and `inline m(@a)`.
+fn filter_of(alloc: Global, words: &str) -> Result<NodeId, Trouble>
+    ensures { IfOk result (λ node. IsWellFormed node × (0 < rank node)) }
+{
+    let (verb, word) = words.split_once(' ').unwrap_or((words, ""));
+    let filter = match verb {
+        "up" => Filter::Up(named(alloc, word)?),
+        "cone" => Filter::Cone(named(alloc, word)?),
+        "base" => Filter::Base(named(alloc, word)?),
+        "inline" => Filter::Inline(method_of(alloc, word)?),
+        _ => return Err(Trouble::Unclear),
+    };
+    Ok(NodeId::Filter(filter))
+}
+
+// The key of a method, as `m(@a)`.
+fn method_of(alloc: Global, word: &str) -> Result<MethodKey, Trouble> {
+    let block = format!(in alloc; "drop method {word}")?;
+    match read_block(alloc, block.as_str().as_bytes())? {
+        Command::Edit(edit) => dropped(alloc, &edit),
+        other => {
+            drop(other);
+            Err(Trouble::Unclear)
+        }
+    }
+}
+
+fn dropped(alloc: Global, edit: &Edit) -> Result<MethodKey, Trouble> {
+    match edit.changes.as_slice() {
+        [Change::Drop(DeclKey::Method(key))] => Ok(key.copy(alloc)?),
+        _ => Err(Trouble::Unclear),
+    }
+}
