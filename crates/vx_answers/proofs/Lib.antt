@@ -30,5 +30,6 @@ pub mod Joining
 pub mod SlotsIs
 pub mod SlotsLaw
 pub mod Touching
+pub mod TestsNever
 pub mod NeverMixed
 pub mod BindLaw

@@ -1,6 +1,7 @@
 -- Over the answers of a program each row comes to the program's answer.
 use Rattle.std.proofs.Common.{List, Bool, true, false, [], ap, refl, sym, map, ◌≡◌, ◌∙◌}
 use Rattle.std.specs.Prelude.{if◌then◌else◌, None}
+use Rattle.vx_names.specs.declared.key.Selector.{Selector}
 use Rattle.vx_names.specs.declared.key.MethodKey.{MethodKey}
 use Rattle.vx_syntax.specs.declared.decl.Decl.{Decl}
 use Rattle.vx_syntax.specs.Expressions.{Bytes}
@@ -15,11 +16,14 @@ use Rattle.vx_node.specs.declared.answer.Answer.{Answer}
 use Rattle.vx_node.specs.declared.answer.Answer.TheVariants as answers
 use Rattle.vx_node.specs.declared.kind.Kind.{Kind}
 use Rattle.vx_node.specs.Traces.{Answers}
-use Rattle.vx_node.specs.Asking.{Asking, gives, asks, ask, each, outcome, Gives}
+use Rattle.vx_node.specs.Asking.{Asking, gives, mixes, asks, each, outcome, Gives}
 use Rattle.vx_compilation.specs.Readings.{told}
 use Rattle.vx_answers.specs.SendRows.{About, is_base, names_in, specialisers_of, specialisers_asked}
-use Rattle.vx_answers.specs.UnitRows.{TableUnit, with_cone, source_heads, table_among, table_row, code_row}
-use Rattle.vx_answers.specs.Answers.{row, ans, no_code, no_table, IsBuilt}
+use Rattle.vx_answers.specs.UnitRows.{with_cone, source_heads, with_clones, table_by, table_among, table_row, code_row}
+use Rattle.vx_answers.specs.TestRows.{test_row}
+use Rattle.vx_answers.specs.Answers.{row, ans, IsBuilt}
+use Rattle.vx_units.specs.TableUnit.{Split}
+use Rattle.vx_answers.proofs.TestsNever.{NeverMixes, test_never}
 use Rattle.vx_answers.proofs.RowLaw.{RowIs, row_is}
 use Rattle.vx_answers.proofs.EachLaw.{each_outcome}
 use Rattle.vx_answers.proofs.UpLaw.{up_outcome, up_answer}
@@ -53,15 +57,26 @@ module _ (answer : Answers) where
   with_cone_comes x = either (is_base x ((order_told answer).base x)) x
 
   -- what is asked for a table comes to the unit of all that was asked
-  pub table_comes : (unit_of : TableUnit) (heads : List (MethodKey × Kind)) → outcome (table_among unit_of heads) answer
-      ≡ Gives (unit_of heads (map of_specialiser (specialisers_asked (specialisers_of heads None)))
-      (map (λ key. answer (node.Filter (filters.Clones key))) (source_heads heads)))
-  table_comes unit_of heads =
+  abbrev pub specialisers_told : List (MethodKey × Kind) → List WithCone
+  specialisers_told heads = map of_specialiser (specialisers_asked (specialisers_of heads None))
+
+  -- the clones of each source method
+  abbrev pub clones_told : List (MethodKey × Kind) → List (MethodKey × Split)
+  clones_told heads = map (λ key. (key, (told answer).clones key)) (source_heads heads)
+
+  pub table_comes : (selector : Selector) (heads : List (MethodKey × Kind)) → outcome (table_among selector heads) answer ≡ Gives (table_by selector heads
+      (specialisers_told heads) (clones_told heads))
+  table_comes selector heads =
       each_outcome with_cone answer of_specialiser with_cone_comes (specialisers_asked (specialisers_of heads None))
-      (λ abouts. each (λ key. ask (node.Filter (filters.Clones key))) (source_heads heads) (λ clones. gives (unit_of heads abouts clones)))
-      ∙ each_outcome (λ key. ask (node.Filter (filters.Clones key))) answer (λ key. answer (node.Filter (filters.Clones key))) (λ key. refl)
-      (source_heads heads)
-      (λ clones. gives (unit_of heads (map of_specialiser (specialisers_asked (specialisers_of heads None))) clones))
+      (λ own. each with_clones (source_heads heads) (λ clones. gives (table_by selector heads own clones)))
+      ∙ each_outcome with_clones answer (λ key. (key, (told answer).clones key)) (λ key. refl) (source_heads heads)
+      (λ clones. gives (table_by selector heads (specialisers_told heads) clones))
+
+-- a questioning that does not give up comes to a value
+valued : {A : Type 0} (q : Asking A) (answer : Answers) → NeverMixes q → (value : A) × (outcome q answer ≡ Gives value)
+valued (gives value) answer never = (value, refl)
+valued (mixes at) answer never = absurd never
+valued (asks at next) answer never = valued (next (answer at)) answer (never (answer at))
 
 -- a row that comes to a value comes to the answer
 comes : {A : Type 0} (program : List Decl) (subject : NodeId) (wrap : A → Answer) (q : Asking A) (value : A) → RowIs program subject wrap q value →
@@ -83,16 +98,16 @@ target_comes : (program : List Decl) → IsProgram program → (target : Target)
     outcome (row (node.Target target)) (ans program) ≡ Gives (ans program (node.Target target))
 target_comes program is (targets.Shape x) = comes program _ _ _ _ (shape_row_is program is x)
 target_comes program is (targets.Test x) =
-    comes program (node.Target (targets.Test x)) answers.Unit (gives []) []
-    (row_is program (node.Target (targets.Test x)) tt answers.Unit (gives []) [] refl refl)
+    let own = valued (test_row x) (ans program) (test_never x) in
+    comes program (node.Target (targets.Test x)) answers.Unit (test_row x) own.0
+    (row_is program (node.Target (targets.Test x)) tt answers.Unit (test_row x) own.0 refl own.1)
 target_comes program is (targets.Table selector) =
-    comes program (node.Target (targets.Table selector)) answers.Unit (table_row no_table selector) []
-    (row_is program (node.Target (targets.Table selector)) tt answers.Unit (table_row no_table selector) [] refl
-    (table_comes (ans program) no_table ((told (ans program)).heads selector)))
+    comes program _ _ _ _
+    (row_is program (node.Target (targets.Table selector)) tt answers.Unit (table_row selector) _ refl
+    (table_comes (ans program) selector ((told (ans program)).heads selector)))
 target_comes program is (targets.Code key variant) =
-    comes program (node.Target (targets.Code key variant)) answers.Unit (code_row no_code key variant) []
-    (row_is program (node.Target (targets.Code key variant)) tt answers.Unit (code_row no_code key variant) [] refl
-    (codes_are_asked.gives no_code (ans program) key variant))
+    comes program _ _ _ _
+    (row_is program (node.Target (targets.Code key variant)) tt answers.Unit (code_row key variant) _ refl (codes_are_asked.gives (ans program) key variant))
 
 pub never_mixed : (program : List Decl) → IsProgram program → (subject : NodeId) → IsBuilt subject →
     outcome (row subject) (ans program) ≡ Gives (ans program subject)

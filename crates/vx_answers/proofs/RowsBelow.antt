@@ -13,12 +13,15 @@ use Rattle.vx_node.specs.Asking.{Asking, gives}
 use Rattle.vx_compilation.specs.TreeAsking.{ask_tree}
 use Rattle.vx_answers.specs.Facts.{text_of}
 use Rattle.vx_answers.specs.OrderRows.{up_row, cone_row, base_row}
-use Rattle.vx_answers.specs.FieldRows.{slots_row, field_row, shape_row, shape_unit, slots_answered}
+use Rattle.vx_units.specs.ShapeUnit.{shape_unit}
+use Rattle.vx_units.specs.CodeUnit.{code_unit}
+use Rattle.vx_answers.specs.FieldRows.{slots_row, field_row, shape_row, slots_answered}
 use Rattle.vx_answers.specs.SendRows.{bind_row, inline_row, clones_row}
 use Rattle.vx_answers.specs.UnitRows.{table_row, code_row}
-use Rattle.vx_answers.specs.Answers.{as_answer, row, no_code, no_table, IsBuilt}
+use Rattle.vx_answers.specs.TestRows.{test_row}
+use Rattle.vx_answers.specs.Answers.{as_answer, row, IsBuilt}
 use Rattle.vx_answers.proofs.Below.{AsksBelow, given, low, followed_below, up_below, cone_below, base_below, slots_below, field_below}
-use Rattle.vx_answers.proofs.SendsBelow.{bind_below, inline_below, clones_below, table_below}
+use Rattle.vx_answers.proofs.SendsBelow.{bind_below, inline_below, clones_below, table_below, test_below}
 use Rattle.vx_answers.proofs.TreeBelow.{tree_below}
 
 wrapped : {A : Type 0} (r : ℕ) (wrap : A → Answer) (question : Asking A) → AsksBelow r question → AsksBelow r (as_answer wrap question)
@@ -39,11 +42,11 @@ target_below (targets.Shape x) =
     wrapped 4 answers.Unit (shape_row x)
     (low (node.Filter (filters.Slots x)) (λ answer. gives (shape_unit (slots_answered answer))) (omega arith)
     (λ answer. given (shape_unit (slots_answered answer))))
-target_below (targets.Test x) = given _
-target_below (targets.Table selector) = wrapped 4 answers.Unit (table_row no_table selector) (table_below no_table selector)
+target_below (targets.Test x) = wrapped 4 answers.Unit (test_row x) (test_below x)
+target_below (targets.Table selector) = wrapped 4 answers.Unit (table_row selector) (table_below selector)
 target_below (targets.Code key variant) =
-    wrapped 4 answers.Unit (code_row no_code key variant)
-    (followed_below 4 (ask_tree key variant) (λ tree. gives (no_code tree)) (tree_below key variant) (λ tree. given (no_code tree)))
+    wrapped 4 answers.Unit (code_row key variant)
+    (followed_below 4 (ask_tree key variant) (λ tree. gives (code_unit tree)) (tree_below key variant) (λ tree. given (code_unit tree)))
 
 pub row_below : (subject : NodeId) → IsBuilt subject → AsksBelow (rank subject) (row subject)
 row_below (node.Fact fact) built = absurd built

@@ -1,13 +1,15 @@
 -- What is asked for bindings, inlining, clones and tables has lower ranks.
-use Rattle.std.proofs.Common.{ℕ, suc, true, false, List, [], ◌∷◌, length, Option, Some, None, arith, ◌<◌}
+use Rattle.std.proofs.Common.{ℕ, zero, suc, true, false, List, [], ◌∷◌, length, Option, Some, None, arith, ◌<◌}
 use Rattle.std.specs.Prelude.{nat_le, ◌&&◌}
 use Rattle.std.specs.List.{list_any}
 use Rattle.std.specs.Str.{bytes_eq}
 use Rattle.vx_names.specs.declared.key.Selector.{Selector}
 use Rattle.vx_names.specs.declared.key.MethodKey.{MethodKey}
+use Rattle.vx_syntax.specs.declared.test.Test.{Test}
 use Rattle.vx_syntax.specs.Expressions.{Bytes}
 use Rattle.vx_syntax.specs.Declarations.{any}
 use Rattle.vx_node.specs.declared.node.NodeId.TheVariants as node
+use Rattle.vx_node.specs.declared.node.Fact.TheVariants as fact
 use Rattle.vx_node.specs.declared.node.Filter.TheVariants as filters
 use Rattle.vx_node.specs.declared.node.Info.{Info}
 use Rattle.vx_node.specs.declared.kind.Kind.{Kind}
@@ -17,7 +19,10 @@ use Rattle.vx_compilation.specs.Readings.{heads_in, source_in, base_in, bound_in
 use Rattle.vx_compilation.specs.Cloning.{Sending, sends_of, is_name, is_one, is_open}
 use Rattle.vx_answers.specs.SendRows.{about, beside, specialisers_of, specialisers_asked, info_objects, cones_asked, bind_among, bind_row}
 use Rattle.vx_answers.specs.SendRows.{inline_row, all_one, decided, is_base, positions, clones_by, clones_row, names_in}
-use Rattle.vx_answers.specs.UnitRows.{TableUnit, with_cone, source_heads, table_among, table_row}
+use Rattle.vx_units.specs.TestUnit.{all_tested}
+use Rattle.vx_answers.specs.OrderRows.{most_names}
+use Rattle.vx_answers.specs.UnitRows.{with_cone, source_heads, with_clones, table_among, table_row}
+use Rattle.vx_answers.specs.TestRows.{OwnTest, Onwards, predicate_in, ask_stood, above_asked, above_after, in_all, with_fields, tests_of, test_among, test_row}
 use Rattle.vx_answers.proofs.Below.{AsksBelow, given, low, followed_below, each_below, either_below}
 
 about_below : (r : ℕ) → 1 < r → (x : Bytes) → AsksBelow r (about x)
@@ -90,10 +95,44 @@ with_cone_below x =
     (λ answer. given (one, names_in answer)))
     (given (one, [])))
 
-table_among_below : (unit_of : TableUnit) (heads : List (MethodKey × Kind)) → AsksBelow 4 (table_among unit_of heads)
-table_among_below unit_of heads =
-    each_below 4 with_cone (specialisers_asked (specialisers_of heads None)) _ with_cone_below (λ abouts.
-    each_below 4 _ (source_heads heads) _ (λ key. low (node.Filter (filters.Clones key)) gives (omega arith) (λ answer. given answer)) (λ clones. given _))
+with_clones_below : (key : MethodKey) → AsksBelow 4 (with_clones key)
+with_clones_below key = low (node.Filter (filters.Clones key)) _ (omega arith) (λ answer. given _)
 
-pub table_below : (unit_of : TableUnit) (selector : Selector) → AsksBelow 4 (table_row unit_of selector)
-table_below unit_of selector = low _ _ (omega arith) (λ answer. table_among_below unit_of (heads_in answer))
+table_among_below : (selector : Selector) (heads : List (MethodKey × Kind)) → AsksBelow 4 (table_among selector heads)
+table_among_below selector heads =
+    each_below 4 with_cone (specialisers_asked (specialisers_of heads None)) _ with_cone_below (λ asked.
+    each_below 4 with_clones (source_heads heads) _ with_clones_below (λ clones. given _))
+
+pub table_below : (selector : Selector) → AsksBelow 4 (table_row selector)
+table_below selector = low _ _ (omega arith) (λ answer. table_among_below selector (heads_in answer))
+
+-- ---- tests
+
+after_below : (go : Onwards) → ((met left plain : List Bytes) (found : List OwnTest) → AsksBelow 4 (go met left plain found)) →
+    (met : List Bytes) (x : Bytes) (left plain : List Bytes) (found : List OwnTest) (own : Option (List Bytes × Test)) →
+    AsksBelow 4 (above_after go met x left plain found own)
+after_below go further met x left plain found None = further met left plain found
+after_below go further met x left plain found (Some own) =
+    each_below 4 ask_stood own.0 _ (λ y. low (node.Fact (fact.There y)) _ (omega arith) (λ answer. given _)) (λ stood. further _ _ _ _)
+
+above_below : (steps : ℕ) (met left plain : List Bytes) (found : List OwnTest) → AsksBelow 4 (above_asked steps met left plain found)
+above_below steps met [] plain found = given _
+above_below zero met (x ∷ left) plain found = given _
+above_below (suc steps) met (x ∷ left) plain found =
+    low (node.Fact (fact.Decl x)) _ (omega arith) (λ answer.
+    after_below (above_asked steps) (above_below steps) met x left plain found (predicate_in answer))
+
+fields_below : (names : List Bytes) (class : Bytes) → AsksBelow 4 (with_fields names class)
+fields_below names class =
+    each_below 4 _ names _ (λ name. low (node.Filter (filters.Field class name)) _ (omega arith) (λ answer. given _)) (λ fields. given _)
+
+among_tested_below : (plain : List Bytes) (tests : List OwnTest) → AsksBelow 4 (test_among (record { plain = plain; tests = tests }))
+among_tested_below plain [] = given []
+among_tested_below plain (own ∷ rest) =
+    each_below 4 (beside filters.Cone) plain _ (λ x. low (node.Filter (filters.Cone x)) _ (omega arith) (λ answer. given _)) (λ cones.
+    each_below 4 _ (in_all cones) _ (fields_below (all_tested (tests_of (own ∷ rest)) [])) (λ classes. given _))
+
+pub test_below : (x : Bytes) → AsksBelow 4 (test_row x)
+test_below x =
+    followed_below 4 (above_asked most_names (x ∷ []) (x ∷ []) [] []) test_among (above_below most_names (x ∷ []) (x ∷ []) [] []) (λ found.
+    among_tested_below found.plain found.tests)

@@ -14,7 +14,8 @@ use Rattle.vx_node.specs.Asking.{Gives}
 use Rattle.vx_model.specs.Order.{up}
 use Rattle.vx_model.specs.Fields.{slots}
 use Rattle.vx_answers.specs.MayBe.{MayBe, IsAround}
-use Rattle.vx_answers.specs.FieldRows.{slots_row, shape_row, shape_unit, slots_answered}
+use Rattle.vx_units.specs.ShapeUnit.{shape_unit}
+use Rattle.vx_answers.specs.FieldRows.{slots_row, shape_row, slots_answered}
 use Rattle.vx_answers.specs.Answers.{ans, reads}
 use Rattle.vx_answers.proofs.ByRow.{facts_are}
 use Rattle.vx_answers.proofs.RowLaw.{RowIs, row_is}

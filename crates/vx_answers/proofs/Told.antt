@@ -34,7 +34,8 @@ use Rattle.vx_compilation.specs.Readings.{told, source_of, there_in, heads_in, s
 use Rattle.vx_answers.specs.Facts.{text_of}
 use Rattle.vx_answers.specs.FieldRows.{field_row}
 use Rattle.vx_answers.specs.SendRows.{names_in, bind_among, bind_row, inline_row, clones_row}
-use Rattle.vx_answers.specs.Answers.{ans, reads, no_code}
+use Rattle.vx_units.specs.CodeUnit.{code_unit}
+use Rattle.vx_answers.specs.Answers.{ans, reads}
 use Rattle.vx_answers.proofs.ByRow.{facts_are}
 use Rattle.vx_answers.proofs.RowLaw.{RowIs, row_is}
 use Rattle.vx_answers.proofs.UpLaw.{gives_decls, up_answer}
@@ -163,8 +164,8 @@ pub clones_answer : (program : List Decl) → IsProgram program → (key : Metho
 clones_answer program is key = (clones_row_is program is key).answer ∙ ap answers.Clones (clones_same program key)
 
 pub code_told : (program : List Decl) → IsProgram program → (key : MethodKey) (variant : Variant) →
-    ans program (node.Target (target.Code key variant)) ≡ answers.Unit (no_code (tree (asked program) key variant))
-code_told program is key variant = codes_are_asked.answer program key variant ∙ ap (λ z. answers.Unit (no_code (tree z key variant))) (told_is program is)
+    ans program (node.Target (target.Code key variant)) ≡ answers.Unit (code_unit (tree (asked program) key variant))
+code_told program is key variant = codes_are_asked.answer program key variant ∙ ap (λ z. answers.Unit (code_unit (tree z key variant))) (told_is program is)
 
 -- the reads of fields
 pub field_is_read : (program : List Decl) (is : IsProgram program) (class name : Bytes) (subject : NodeId) →

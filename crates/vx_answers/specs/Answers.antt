@@ -13,31 +13,24 @@ use Rattle.vx_node.specs.declared.node.Target.TheVariants as targets
 use Rattle.vx_node.specs.declared.node.Variant.{Variant}
 use Rattle.vx_node.specs.declared.answer.Answer.{Answer}
 use Rattle.vx_node.specs.declared.answer.Answer.TheVariants as answers
-use Rattle.vx_node.specs.declared.unit.Piece.{Piece}
 use Rattle.vx_node.specs.declared.trace.Step.{Step}
 use Rattle.vx_node.specs.Nodes.{rank}
 use Rattle.vx_node.specs.Traces.{nodes, Answers, Agrees}
 use Rattle.vx_node.specs.Asking.{Asking, gives, followed, Outcome, Gives, Mixes, outcome, asked}
-use Rattle.vx_compilation.specs.declared.tree.Tree.{Tree}
 use Rattle.vx_compilation.specs.Readings.{told}
 use Rattle.vx_compilation.specs.Resolved.{tree}
 use Rattle.vx_compilation.specs.TreeAsking.{ask_tree}
+use Rattle.vx_units.specs.CodeUnit.{code_unit}
 use Rattle.vx_answers.specs.Facts.{fact_of, text_of}
 use Rattle.vx_answers.specs.OrderRows.{up_row, cone_row, base_row}
 use Rattle.vx_answers.specs.FieldRows.{slots_row, field_row, shape_row}
 use Rattle.vx_answers.specs.SendRows.{bind_row, inline_row, clones_row}
-use Rattle.vx_answers.specs.UnitRows.{TableUnit, table_row, code_row}
+use Rattle.vx_answers.specs.UnitRows.{table_row, code_row}
+use Rattle.vx_answers.specs.TestRows.{test_row}
 
 -- a questioning whose value is wrapped
 abbrev pub as_answer : {A : Type 0} → (A → Answer) → Asking A → Asking Answer
 as_answer wrap question = followed question (λ value. gives (wrap value))
-
--- here tests, tables and codes have the empty unit: their bytes stand in other formats
-abbrev pub no_code : Tree → List Piece
-no_code tree = []
-
-abbrev pub no_table : TableUnit
-no_table heads abouts clones = []
 
 -- What is asked for a filter, and what comes of it.
 abbrev pub filter_row : Filter → Asking Answer
@@ -53,9 +46,9 @@ filter_row (filters.Clones key) = as_answer answers.Clones (clones_row key)
 -- What is asked for a target, and what comes of it.
 abbrev pub target_row : Target → Asking Answer
 target_row (targets.Shape x) = as_answer answers.Unit (shape_row x)
-target_row (targets.Test x) = gives (answers.Unit [])
-target_row (targets.Table selector) = as_answer answers.Unit (table_row no_table selector)
-target_row (targets.Code key variant) = as_answer answers.Unit (code_row no_code key variant)
+target_row (targets.Test x) = as_answer answers.Unit (test_row x)
+target_row (targets.Table selector) = as_answer answers.Unit (table_row selector)
+target_row (targets.Code key variant) = as_answer answers.Unit (code_row key variant)
 
 -- The row of a node. Facts are answered out of the program, so nothing is asked for them.
 abbrev pub row : NodeId → Asking Answer
@@ -104,11 +97,10 @@ IsBuilt (node.Target target) = Unit {0}
 -- What is asked for a code comes to the unit of the tree that is defined over the same answers, asks what the tree asks, and never gives up. So it is
 -- over any answers, and over those of a program.
 pub record CodesAreAsked : Type 0 where
-  pub gives : (unit_of : Tree → List Piece) (answer : Answers) (key : MethodKey) (variant : Variant) →
-      outcome (code_row unit_of key variant) answer ≡ Gives (unit_of (tree (told answer) key variant))
-  pub asks : (unit_of : Tree → List Piece) (answer : Answers) (key : MethodKey) (variant : Variant) →
-      asked (code_row unit_of key variant) answer ≡ asked (ask_tree key variant) answer
+  pub gives : (answer : Answers) (key : MethodKey) (variant : Variant) →
+      outcome (code_row key variant) answer ≡ Gives (code_unit (tree (told answer) key variant))
+  pub asks : (answer : Answers) (key : MethodKey) (variant : Variant) → asked (code_row key variant) answer ≡ asked (ask_tree key variant) answer
   pub answer : (program : List Decl) (key : MethodKey) (variant : Variant) →
-      ans program (node.Target (targets.Code key variant)) ≡ answers.Unit (no_code (tree (told (ans program)) key variant))
+      ans program (node.Target (targets.Code key variant)) ≡ answers.Unit (code_unit (tree (told (ans program)) key variant))
   pub read : (program : List Decl) (key : MethodKey) (variant : Variant) →
       reads program (node.Target (targets.Code key variant)) ≡ asked (ask_tree key variant) (ans program)

@@ -18,10 +18,9 @@ use Rattle.vx_node.specs.declared.answer.Known.TheVariants as known
 use Rattle.vx_node.specs.declared.answer.Stands.{Stands}
 use Rattle.vx_node.specs.declared.answer.Stands.TheVariants as h
 use Rattle.vx_node.specs.declared.unit.Piece.{Piece}
-use Rattle.vx_node.specs.declared.unit.Piece.TheVariants as pieces
-use Rattle.vx_node.specs.declared.unit.Symbol.TheVariants as symbols
 use Rattle.vx_node.specs.Asking.{Asking, gives, mixes, asks, followed, each}
 use Rattle.vx_model.specs.Fields.{keys_named}
+use Rattle.vx_units.specs.ShapeUnit.{shape_unit}
 use Rattle.vx_answers.specs.OrderRows.{most_names, up_row}
 
 abbrev pub Slot : Type 0
@@ -115,11 +114,6 @@ field_row class name =
     (λ ups. gives (lowest (keys_named name slots) ups)))
 
 -- ---- shapes
-
--- the unit of an object of these slots, without the bytes of its count and of the starts, which other formats say
-abbrev pub shape_unit : List Slot → List Piece
-shape_unit [] = []
-shape_unit ((key, start) ∷ rest) = pieces.Symbol (symbols.Field key) ∷ shape_unit rest
 
 abbrev pub slots_answered : Answer → List Slot
 slots_answered (answers.Slots slots) = slots

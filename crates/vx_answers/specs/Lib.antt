@@ -3,6 +3,7 @@ pub mod OrderRows
 pub mod FieldRows
 pub mod SendRows
 pub mod UnitRows
+pub mod TestRows
 pub mod Answers
 pub mod Findings
 pub mod MayBe

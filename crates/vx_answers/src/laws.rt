@@ -29,9 +29,10 @@ ghost use Rattle.vx_compilation.specs.Resolved.{tree};
 ghost use Rattle.vx_answers.specs.Facts.{fact_of, text_of};
 ghost use Rattle.vx_answers.specs.BindReads.{IsReadFor};
 ghost use Rattle.vx_answers.specs.Touched.{concerns};
-ghost use Rattle.vx_answers.specs.FieldRows.{shape_unit};
+ghost use Rattle.vx_units.specs.ShapeUnit.{shape_unit};
+ghost use Rattle.vx_units.specs.CodeUnit.{code_unit};
 ghost use Rattle.vx_answers.specs.MayBe.{MayBe, IsAround};
-ghost use Rattle.vx_answers.specs.Answers.{row, ans, reads, Stands, IsBuilt, CodesAreAsked, no_code};
+ghost use Rattle.vx_answers.specs.Answers.{row, ans, reads, Stands, IsBuilt, CodesAreAsked};
 
 /// What came of a node's row, and what was asked for it, stand.
 pub fn answers_stand()
@@ -157,7 +158,7 @@ pub fn clones_are_answered()
 pub fn answers_are_told()
     ensures told { (program : List Decl) → IsProgram program → told (ans program) ≡ asked program }
     ensures code { (program : List Decl) → IsProgram program → (key : MethodKey) (variant : Variant) →
-        ans program (node.Target (target.Code key variant)) ≡ answers.Unit (no_code (tree (asked program) key variant)) }
+        ans program (node.Target (target.Code key variant)) ≡ answers.Unit (code_unit (tree (asked program) key variant)) }
 {}
 
 /// What is asked for a code comes to the unit of the tree, and asks what the tree asks.
