@@ -2,7 +2,7 @@ ghost use Rattle.vx_program.specs.Apply.{IsWritable};
 
 use crate::asked::{names_of, told_of};
 use crate::declared::told;
-use crate::order::{base_text, count, field_text, names_text, slots_text};
+use crate::order::{base_text, count, names_text, slots_text};
 use crate::sends::{class_text, found, holds_text, kinds_text};
 use crate::trouble::{Trouble, clear};
 use std::alloc::Global;
@@ -78,10 +78,9 @@ fn answer(alloc: Global, program: &Program, question: &str) -> Result<String, Tr
             names_text(alloc, names.as_slice())
         }
         "reads" => told_of(alloc, program, verb, words),
-        "inline" => told_of(alloc, program, verb, question),
+        "field" | "inline" | "bind" | "shape" => told_of(alloc, program, verb, question),
         "base" => base_text(alloc, program, words),
         "slots" => slots_text(alloc, program, words),
-        "field" => field_text(alloc, program, words),
         "count" => count(alloc, program, words),
         "class" => class_text(alloc, words),
         "kinds" => kinds_text(alloc, program, words),

@@ -9,10 +9,11 @@ use std::alloc::Global;
 use vx_answers::Finding;
 use vx_compute::{Made, compute_plain};
 use vx_explain::{answer_text, reads_text};
-use vx_names::{DeclKey, MethodKey, Name};
-use vx_node::{Answer, CountGate, Filter, NodeId};
+use vx_names::{DeclKey, FieldKey, MethodKey, Name};
+use vx_node::{Answer, CountGate, Filter, Info, Infos, NodeId, Target};
 use vx_program::{Change, Edit, Program};
 use vx_reader::{Command, read_block};
+use vx_syntax::Start;
 
 /// What is found of a filter.
 pub fn found(alloc: Global, program: &Program, node: &NodeId) -> Result<Finding, Trouble>
@@ -65,7 +66,24 @@ pub fn base_of(alloc: Global, program: &Program, x: &Name) -> Result<Option<Name
     }
 }
 
-/// What the verb means: the answer of a filter, or what is read for it.
+/// The slots of an object of a class.
+pub fn slots_of(
+    alloc: Global,
+    program: &Program,
+    x: &Name,
+) -> Result<Items<(FieldKey, Start)>, Trouble> {
+    let node = NodeId::Filter(Filter::Slots(x.copy(alloc)?));
+    let finding = found(alloc, program, &node)?;
+    match finding.value().copy(alloc)? {
+        Answer::Slots(slots) => Ok(slots),
+        other => {
+            drop(other);
+            Err(Trouble::Unclear)
+        }
+    }
+}
+
+/// What the verb means: the answer of a node, or what is read for it.
 pub fn told_of(
     alloc: Global,
     program: &Program,
@@ -74,20 +92,20 @@ pub fn told_of(
 ) -> Result<String, Trouble> {
     match verb {
         "reads" => {
-            let finding = found(alloc, program, &filter_of(alloc, words)?)?;
+            let finding = found(alloc, program, &node_of(alloc, words)?)?;
             let text = reads_text(alloc, finding.trace().steps())?;
             string(alloc, text.as_slice())
         }
         _ => {
-            let finding = found(alloc, program, &filter_of(alloc, words)?)?;
+            let finding = found(alloc, program, &node_of(alloc, words)?)?;
             let text = answer_text(alloc, finding.value())?;
             string(alloc, text.as_slice())
         }
     }
 }
 
-// The filter that the words name, as `up a` and `inline m(@a)`.
-fn filter_of(alloc: Global, words: &str) -> Result<NodeId, Trouble>
+// The node that the words name, as `up a` and `inline m(@a)`.
+fn node_of(alloc: Global, words: &str) -> Result<NodeId, Trouble>
     ensures { IfOk result (λ node. IsWellFormed node × (0 < rank node)) }
 {
     let (verb, word) = words.split_once(' ').unwrap_or((words, ""));
@@ -95,10 +113,58 @@ fn filter_of(alloc: Global, words: &str) -> Result<NodeId, Trouble>
         "up" => Filter::Up(named(alloc, word)?),
         "cone" => Filter::Cone(named(alloc, word)?),
         "base" => Filter::Base(named(alloc, word)?),
+        "slots" => Filter::Slots(named(alloc, word)?),
+        "shape" => return Ok(NodeId::Target(Target::Shape(named(alloc, word)?))),
         "inline" => Filter::Inline(method_of(alloc, word)?),
+        "field" => field_of(alloc, word)?,
+        "bind" => return bind_of(alloc, word),
         _ => return Err(Trouble::Unclear),
     };
     Ok(NodeId::Filter(filter))
+}
+
+// The field that a name means for a class, as `a f`.
+fn field_of(alloc: Global, words: &str) -> Result<Filter, Trouble>
+    ensures { IfOk result (λ filter. IsWellFormed (NodeId.Filter filter) × (0 < rank (NodeId.Filter filter))) }
+{
+    let (class, name) = words.split_once(' ').unwrap_or((words, ""));
+    Ok(Filter::Field(named(alloc, class)?, named(alloc, name)?))
+}
+
+// The binding of a message to the methods of a key's selector, where this is known of its arguments.
+fn bind_of(alloc: Global, words: &str) -> Result<NodeId, Trouble>
+    ensures { IfOk result (λ node. IsWellFormed node × (0 < rank node)) }
+{
+    let (word, rest) = words.split_once(' ').unwrap_or((words, ""));
+    let key = method_of(alloc, word)?;
+    let infos = infos_of(alloc, rest)?;
+    if infos.len() != key.selector.arity as usize {
+        return Err(Trouble::Unclear);
+    }
+    let selector = key.selector.copy(alloc)?;
+    Ok(NodeId::Filter(Filter::Bind(selector, Infos::new(infos), None)))
+}
+
+// What is known of arguments: each `*`, `<x` or `=x`.
+fn infos_of(alloc: Global, words: &str) -> Result<Items<Info>, Trouble> {
+    let mut infos = Items::new(alloc);
+    for word in words.split_whitespace() {
+        infos.push(info_of(alloc, word)?)?;
+    }
+    Ok(infos)
+}
+
+fn info_of(alloc: Global, word: &str) -> Result<Info, Trouble> {
+    if word == "*" {
+        return Ok(Info::Any);
+    }
+    if let Some(x) = word.strip_prefix('<') {
+        return Ok(Info::Cone(named(alloc, x)?));
+    }
+    match word.strip_prefix('=') {
+        Some(x) => Ok(Info::Exact(named(alloc, x)?)),
+        None => Err(Trouble::Unclear),
+    }
 }
 
 // The key of a method, as `m(@a)`.

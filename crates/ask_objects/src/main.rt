@@ -5,7 +5,9 @@
 //!
 //! - `up O`, `cone O`, `base O`: the names above O, those of the plain objects below it, and its base;
 //! - `inline M(@O,@O)`: what is put in place of sends that are bound to the method, or none;
-//! - `reads up O`, `reads cone O`, `reads base O`, `reads inline M(@O)`: what is asked for these;
+//! - `bind M(@O,@O) INFO INFO`: what a message of the method's selector is bound to, each info being `*`, `<O` or `=O`;
+//! - `reads up O`, and so with `cone`, `base`, `slots`, `field`, `inline`, `bind` and `shape`: what is asked for these;
+//! - `shape C`: what stands in an image for an object of the class;
 //! - `slots C`: the slots of an object of the class, with their starts; `field C F`: the field that the name F means there;
 //! - `count up O`, `count cone O`, `count slots C`: how many there are;
 //! - `class V`: the class of a value; `kinds V`: as which objects and predicates it counts; `holds V O`: whether it counts as O;

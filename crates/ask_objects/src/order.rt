@@ -1,11 +1,10 @@
 use crate::ask::{named, string};
-use crate::asked::{base_of, names_of};
+use crate::asked::{base_of, names_of, slots_of};
 use crate::trouble::{Trouble, clear};
 use std::alloc::Global;
-use vx_fields::{field_at, slots};
-use vx_names::{DeclKey, FieldKey, Name};
+use vx_names::{FieldKey, Name};
 use vx_program::Program;
-use vx_syntax::{Start, key_text};
+use vx_syntax::Start;
 
 /// Puts the word behind the others, and a blank between them.
 pub fn push_word(words: &mut String, word: &str) -> Result<(), Trouble> {
@@ -59,7 +58,7 @@ fn slot_text(alloc: Global, key: &FieldKey, start: &Start) -> Result<String, Tro
 
 /// The slots of an object of the class, each as `n@a=4`.
 pub fn slots_text(alloc: Global, program: &Program, class: &str) -> Result<String, Trouble> {
-    let slots = slots(alloc, program, &named(alloc, class)?)?;
+    let slots = slots_of(alloc, program, &named(alloc, class)?)?;
     let mut words = String::new(alloc);
     for (key, start) in slots.as_slice() {
         let word = slot_text(alloc, key, start)?;
@@ -68,25 +67,13 @@ pub fn slots_text(alloc: Global, program: &Program, class: &str) -> Result<Strin
     or_none(alloc, words)
 }
 
-/// The key of the field that a name means for a class, or `none`.
-pub fn field_text(alloc: Global, program: &Program, words: &str) -> Result<String, Trouble> {
-    let (class, name) = words.split_once(' ').unwrap_or((words, ""));
-    match field_at(alloc, program, &named(alloc, class)?, &named(alloc, name)?)? {
-        Some(key) => {
-            let text = key_text(alloc, &DeclKey::Field(key))?;
-            string(alloc, text.as_slice())
-        }
-        None => Ok("none".to_string(alloc)?),
-    }
-}
-
 /// How many names or slots there are.
 pub fn count(alloc: Global, program: &Program, words: &str) -> Result<String, Trouble> {
     let (verb, word) = words.split_once(' ').unwrap_or((words, ""));
     let name = named(alloc, word)?;
     let count = match verb {
         "up" | "cone" => names_of(alloc, program, verb, &name)?.len(),
-        "slots" => slots(alloc, program, &name)?.len(),
+        "slots" => slots_of(alloc, program, &name)?.len(),
         _ => return Err(Trouble::Unclear),
     };
     Ok(format!(in alloc; "{count}")?)

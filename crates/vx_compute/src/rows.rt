@@ -2,11 +2,15 @@
 ghost use Rattle.std.specs.Prelude.{◌≡◌, ◌≤◌, ◌<◌, ◌+◌, IsOk};
 ghost use Rattle.vx_node.specs.Nodes.{rank, IsWellFormed};
 ghost use Rattle.vx_node.specs.Askers.{Follows};
-ghost use Rattle.vx_answers.specs.Answers.{row, filter_row, IsBuilt};
+ghost use Rattle.vx_answers.specs.SendRows.{bind_row};
+ghost use Rattle.vx_answers.specs.Answers.{row, filter_row, target_row, IsBuilt};
 
 use std::alloc::Global;
+use vx_bind::bind;
+use vx_fields::{field_at, shape, slots};
 use vx_inline::inlinable;
-use vx_node::{Answer, Asker, Filter, Halt, NodeId, Tracer};
+use vx_names::{MethodKey, Selector};
+use vx_node::{Answer, Asker, Bound, Filter, Halt, Infos, NodeId, Target, Tracer};
 use vx_order::{base, cone, up};
 
 /// The answer of a filter or a target, out of what its row asks. The rows that have no pass yet want memory.
@@ -20,7 +24,7 @@ pub fn answer<A: Asker>(alloc: Global, t: &mut Tracer<A>, node: &NodeId) -> Resu
 {
     match node {
         NodeId::Filter(filter) => filter_answer(alloc, t, filter),
-        NodeId::Target(_) => Err(Halt::OutOfMemory),
+        NodeId::Target(target) => target_answer(alloc, t, target),
         NodeId::Fact(_) => Err(Halt::OutOfMemory),
     }
 }
@@ -30,6 +34,7 @@ fn filter_answer<A: Asker>(
     t: &mut Tracer<A>,
     filter: &Filter,
 ) -> Result<Answer, Halt>
+    requires low { rank (NodeId.Filter filter.now) ≤ A.greatest + 1 }
     requires ready { A.ready t.old.asker.now }
     ensures ready { A.ready t.new.asker.now }
     ensures same { t.new.asker.ghost_name ≡ t.old.asker.ghost_name }
@@ -49,8 +54,56 @@ fn filter_answer<A: Asker>(
             Ok(name) => Ok(Answer::Base(name)),
             Err(halt) => Err(halt),
         },
+        Filter::Slots(x) => match slots(alloc, t, x) {
+            Ok(slots) => Ok(Answer::Slots(slots)),
+            Err(halt) => Err(halt),
+        },
+        Filter::Field(class, name) => match field_at(alloc, t, class, name) {
+            Ok(key) => Ok(Answer::Field(key)),
+            Err(halt) => Err(halt),
+        },
         Filter::Inline(key) => match inlinable(alloc, t, key) {
             Ok(own) => Ok(Answer::Inline(own)),
+            Err(halt) => Err(halt),
+        },
+        Filter::Bind(selector, infos, below) => match bound(alloc, t, selector, infos, below) {
+            Ok(bound) => Ok(Answer::Bind(bound)),
+            Err(halt) => Err(halt),
+        },
+        _ => Err(Halt::OutOfMemory),
+    }
+}
+
+fn bound<A: Asker>(
+    alloc: Global,
+    t: &mut Tracer<A>,
+    selector: &Selector,
+    infos: &Infos,
+    below: &Option<MethodKey>,
+) -> Result<Bound, Halt>
+    requires low { 1 ≤ A.greatest }
+    requires ready { A.ready t.old.asker.now }
+    ensures ready { A.ready t.new.asker.now }
+    ensures same { t.new.asker.ghost_name ≡ t.old.asker.ghost_name }
+    ensures follows { Follows A.manner (bind_row selector.now infos.now below.now) result t.old.asker.now t.old.trace t.new.asker.now t.new.trace }
+{
+    bind(alloc, t, selector, infos.as_slice(), below.as_ref())
+}
+
+fn target_answer<A: Asker>(
+    alloc: Global,
+    t: &mut Tracer<A>,
+    target: &Target,
+) -> Result<Answer, Halt>
+    requires low { 3 ≤ A.greatest }
+    requires ready { A.ready t.old.asker.now }
+    ensures ready { A.ready t.new.asker.now }
+    ensures same { t.new.asker.ghost_name ≡ t.old.asker.ghost_name }
+    ensures follows { Follows A.manner (target_row target.now) result t.old.asker.now t.old.trace t.new.asker.now t.new.trace }
+{
+    match target {
+        Target::Shape(x) => match shape(alloc, t, x) {
+            Ok(unit) => Ok(Answer::Unit(unit)),
             Err(halt) => Err(halt),
         },
         _ => Err(Halt::OutOfMemory),

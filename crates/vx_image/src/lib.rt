@@ -27,6 +27,7 @@ mod views;
 pub use fault::LoadFault;
 pub use loaded::{Loaded, load};
 pub use names::names_are_names;
+pub use spelling::{spell_i128, spell_u8, spell_u32, spell_u128};
 pub use versions::{NarrowFault, narrow, upgrade};
 pub use views::{BlockHead, Initial, Row};
 pub use vx_link::{LinkFault, Roster, Units, link};

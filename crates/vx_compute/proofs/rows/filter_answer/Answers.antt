@@ -25,6 +25,22 @@ pub returns-in-Err-base-clause-follows : goal.returns-in-Err-base-clause-follows
 returns-in-Err-base-clause-follows g c = wrapped_stops (filter_row c.args.filter.now) answers.Base (ap filter_row c.in-Base.is)
     c.in-Err-base.ensures.follows
 
+pub returns-in-Ok-slots-clause-follows : goal.returns-in-Ok-slots-clause-follows
+returns-in-Ok-slots-clause-follows g c = wrapped (filter_row c.args.filter.now) answers.Slots (ap filter_row c.in-Slots.is)
+    c.in-Ok-slots.ensures.follows
+
+pub returns-in-Err-slots-clause-follows : goal.returns-in-Err-slots-clause-follows
+returns-in-Err-slots-clause-follows g c = wrapped_stops (filter_row c.args.filter.now) answers.Slots (ap filter_row c.in-Slots.is)
+    c.in-Err-slots.ensures.follows
+
+pub returns-in-Ok-field_at-clause-follows : goal.returns-in-Ok-field_at-clause-follows
+returns-in-Ok-field_at-clause-follows g c = wrapped (filter_row c.args.filter.now) answers.Field (ap filter_row c.in-Field.is)
+    c.in-Ok-field_at.ensures.follows
+
+pub returns-in-Err-field_at-clause-follows : goal.returns-in-Err-field_at-clause-follows
+returns-in-Err-field_at-clause-follows g c = wrapped_stops (filter_row c.args.filter.now) answers.Field (ap filter_row c.in-Field.is)
+    c.in-Err-field_at.ensures.follows
+
 pub returns-in-Ok-inlinable-clause-follows : goal.returns-in-Ok-inlinable-clause-follows
 returns-in-Ok-inlinable-clause-follows g c = wrapped (filter_row c.args.filter.now) answers.Inline (ap filter_row c.in-Inline.is)
     c.in-Ok-inlinable.ensures.follows
@@ -32,6 +48,13 @@ returns-in-Ok-inlinable-clause-follows g c = wrapped (filter_row c.args.filter.n
 pub returns-in-Err-inlinable-clause-follows : goal.returns-in-Err-inlinable-clause-follows
 returns-in-Err-inlinable-clause-follows g c = wrapped_stops (filter_row c.args.filter.now) answers.Inline (ap filter_row c.in-Inline.is)
     c.in-Err-inlinable.ensures.follows
+
+pub returns-in-Ok-bound-clause-follows : goal.returns-in-Ok-bound-clause-follows
+returns-in-Ok-bound-clause-follows g c = wrapped (filter_row c.args.filter.now) answers.Bind (ap filter_row c.in-Bind.is) c.in-Ok-bound.ensures.follows
+
+pub returns-in-Err-bound-clause-follows : goal.returns-in-Err-bound-clause-follows
+returns-in-Err-bound-clause-follows g c = wrapped_stops (filter_row c.args.filter.now) answers.Bind (ap filter_row c.in-Bind.is)
+    c.in-Err-bound.ensures.follows
 
 pub returns-in_default : goal.returns-in_default
 returns-in_default g c = record { ready = c.requires.ready; same = refl; built = λ e. absurd (cc); follows = no_memory }

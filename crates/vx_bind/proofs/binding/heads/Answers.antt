@@ -1,0 +1,21 @@
+use Rattle.std.proofs.Common.{ap}
+use Rattle.std.proofs.lemmas.Option.{slice_get_within}
+use Rattle.vx_node.specs.declared.node.NodeId.TheVariants as node
+use Rattle.vx_node.specs.declared.node.Fact.TheVariants as fact
+use Rattle.vx_compilation.specs.Readings.{heads_in}
+use Rattle.vx_walks.proofs.Reading.{is_read, is_not_read}
+use Rattle.vx_bind.proofs.binding.heads.Goals as goal
+
+pub returns-in-Err-clause-follows : goal.returns-in-Err-clause-follows
+returns-in-Err-clause-follows g c = is_not_read (node.Fact (fact.Heads c.args.selector.now)) _ heads_in
+    (ap (λ s. node.Fact (fact.Heads s)) c.in_ok-copy.ensures) c.in-Err.ensures.learns
+
+pub answer-requires : goal.answer-requires
+answer-requires g c = slice_get_within _ _ c.in-Ok.ensures.learns.0 c.in-Ok.ensures.learns.1
+
+pub returns-clause-follows : goal.returns-clause-follows
+returns-clause-follows g c =
+    let learned = c.in-Ok.ensures.learns in
+    is_read (node.Fact (fact.Heads c.args.selector.now)) _ heads_in learned.0.value c.answer.result.now c.in_ok-heads.heads
+    (ap (λ s. node.Fact (fact.Heads s)) c.in_ok-copy.ensures)
+    learned.2 (c.answer.ensures learned.0 learned.1) c.in_ok-heads.ensures
