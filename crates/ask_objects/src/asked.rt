@@ -131,18 +131,26 @@ fn field_of(alloc: Global, words: &str) -> Result<Filter, Trouble>
     Ok(Filter::Field(named(alloc, class)?, named(alloc, name)?))
 }
 
-// The binding of a message to the methods of a key's selector, where this is known of its arguments.
+// The binding of a message to the methods of a key's selector, where this is known of its arguments; with `below` at the
+// end, to those that the key's own method goes before.
 fn bind_of(alloc: Global, words: &str) -> Result<NodeId, Trouble>
     ensures { IfOk result (λ node. IsWellFormed node × (0 < rank node)) }
 {
-    let (word, rest) = words.split_once(' ').unwrap_or((words, ""));
+    let above = words.strip_suffix(" below").unwrap_or(words);
+    let (word, rest) = above.split_once(' ').unwrap_or((above, ""));
     let key = method_of(alloc, word)?;
     let infos = infos_of(alloc, rest)?;
     if infos.len() != key.selector.arity as usize {
         return Err(Trouble::Unclear);
     }
     let selector = key.selector.copy(alloc)?;
-    Ok(NodeId::Filter(Filter::Bind(selector, Infos::new(infos), None)))
+    if above.len() == words.len() {
+        return Ok(NodeId::Filter(Filter::Bind(selector, Infos::new(infos), None)));
+    }
+    if key.specialisers.len() != key.selector.arity as usize {
+        return Err(Trouble::Unclear);
+    }
+    Ok(NodeId::Filter(Filter::Bind(selector, Infos::new(infos), Some(key))))
 }
 
 // What is known of arguments: each `*`, `<x` or `=x`.

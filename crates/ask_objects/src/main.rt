@@ -6,6 +6,7 @@
 //! - `up O`, `cone O`, `base O`: the names above O, those of the plain objects below it, and its base;
 //! - `inline M(@O,@O)`: what is put in place of sends that are bound to the method, or none;
 //! - `bind M(@O,@O) INFO INFO`: what a message of the method's selector is bound to, each info being `*`, `<O` or `=O`;
+//!   with `below` at the end, what a message that the method sends on is bound to;
 //! - `reads up O`, and so with `cone`, `base`, `slots`, `field`, `inline`, `bind` and `shape`: what is asked for these;
 //! - `shape C`: what stands in an image for an object of the class;
 //! - `slots C`: the slots of an object of the class, with their starts; `field C F`: the field that the name F means there;

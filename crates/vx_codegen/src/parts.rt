@@ -257,7 +257,8 @@ fn append_call(
     method: &MethodKey,
     variant: &Variant,
 ) -> Result<(), AllocError>
-    ensures { (operands : ℕ) → OnOk result (unit.new ≡ unit.old ++ instruction_signs (machine.Enter (record { method = method.now; variant = variant.now }) operands)) }
+    ensures { (operands : ℕ) →
+        OnOk result (unit.new ≡ unit.old ++ instruction_signs (machine.Enter (record { method = method.now; variant = variant.now }) operands)) }
 {
     let symbol = Symbol::Code(method.copy(alloc)?, variant.copy(alloc)?);
     append_named(alloc, unit, 11, symbol)

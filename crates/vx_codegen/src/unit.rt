@@ -16,7 +16,7 @@ pub struct Unit {
     // Stretches of bytes, each with the name behind it.
     stretches: Vec<(Items<u8>, Symbol)>,
     // The bytes behind the last name.
-    open: Vec<u8>,
+    tail: Vec<u8>,
 }
 
 impl Model for Unit {
@@ -26,7 +26,7 @@ impl Model for Unit {
 
     ghost Value = { List Sign };
 
-    ghost view = { λ u. ungrouped u.stretches.items ++ bytes u.open.items };
+    ghost view = { λ u. ungrouped u.stretches.items ++ bytes u.tail.items };
 }
 
 impl Unit {
@@ -36,7 +36,7 @@ impl Unit {
     {
         Unit {
             stretches: Vec::new(alloc),
-            open: Vec::new(alloc),
+            tail: Vec::new(alloc),
         }
     }
 
@@ -44,42 +44,42 @@ impl Unit {
     pub fn text(&mut self, own: &[u8]) -> Result<(), AllocError>
         ensures { OnOk result (self.new ≡ self.old ++ bytes own.now) }
     {
-        self.open.extend_from_slice(own)
+        self.tail.extend_from_slice(own)
     }
 
     /// Appends a byte.
     pub fn byte(&mut self, n: u8) -> Result<(), AllocError>
         ensures { OnOk result (self.new ≡ self.old ++ bytes (number 1 n)) }
     {
-        spell_u8(n, &mut self.open)
+        spell_u8(n, &mut self.tail)
     }
 
     /// Appends a number of four bytes, all of which are 255 where it does not fit.
     pub fn count(&mut self, n: u64) -> Result<(), AllocError>
         ensures { OnOk result (self.new ≡ self.old ++ bytes (fitted 4 n)) }
     {
-        spell_u32(four_bytes(n), &mut self.open)
+        spell_u32(four_bytes(n), &mut self.tail)
     }
 
     /// Appends a number of one byte, which is 255 where it does not fit.
     pub fn small(&mut self, n: u64) -> Result<(), AllocError>
         ensures { OnOk result (self.new ≡ self.old ++ bytes (fitted 1 n)) }
     {
-        spell_u8(one_byte(n), &mut self.open)
+        spell_u8(one_byte(n), &mut self.tail)
     }
 
     /// Appends a whole number of 16 bytes.
     pub fn integer(&mut self, n: &i128) -> Result<(), AllocError>
         ensures { OnOk result (self.new ≡ self.old ++ bytes (integer n.now)) }
     {
-        spell_i128(n, &mut self.open)
+        spell_i128(n, &mut self.tail)
     }
 
     /// Appends a mask of 16 bytes.
     pub fn mask(&mut self, bits: u128) -> Result<(), AllocError>
         ensures { OnOk result (self.new ≡ self.old ++ bytes (number 16 bits)) }
     {
-        spell_u128(bits, &mut self.open)
+        spell_u128(bits, &mut self.tail)
     }
 
     /// Appends a name.
@@ -87,9 +87,9 @@ impl Unit {
     pub fn name(&mut self, alloc: Global, symbol: Symbol) -> Result<(), AllocError>
         ensures { OnOk result (self.new ≡ self.old ++ named symbol) }
     {
-        let own = Items::from_slice(alloc, self.open.as_slice())?;
+        let own = Items::from_slice(alloc, self.tail.as_slice())?;
         self.stretches.push((own, symbol))?;
-        self.open.clear();
+        self.tail.clear();
         Ok(())
     }
 
@@ -98,7 +98,7 @@ impl Unit {
         ensures { OnOk result (self.new ≡ self.old ++ other.now) }
     {
         self.append_stretches(alloc, other.stretches.as_slice())?;
-        self.text(other.open.as_slice())
+        self.text(other.tail.as_slice())
     }
 
     fn append_stretches(
@@ -120,14 +120,14 @@ impl Unit {
     pub fn size(&self) -> u64
         ensures { result ≡ min (size self.now) (2 ^ 64 - 1) }
     {
-        stretches_size(self.stretches.as_slice()).saturating_add(self.open.len() as u64)
+        stretches_size(self.stretches.as_slice()).saturating_add(self.tail.len() as u64)
     }
 
     /// Appends the size of another unit, as a count.
     pub fn count_size(&mut self, other: &Unit) -> Result<(), AllocError>
         ensures { OnOk result (self.new ≡ self.old ++ bytes (fitted 4 (size other.now))) }
     {
-        spell_u32(bytes_of_size(other), &mut self.open)
+        spell_u32(bytes_of_size(other), &mut self.tail)
     }
 
     /// The pieces of the unit.
@@ -137,7 +137,7 @@ impl Unit {
     {
         let mut pieces = Vec::new(alloc);
         append_pieces(alloc, &mut pieces, self.stretches.as_slice())?;
-        append_bytes(alloc, &mut pieces, self.open.as_slice())?;
+        append_bytes(alloc, &mut pieces, self.tail.as_slice())?;
         Ok(Items::from_vec(pieces))
     }
 }
