@@ -9,4 +9,3 @@ mod unit;
 
 pub use blocks::code;
 pub use shapes::shape;
-pub use unit::Unit;

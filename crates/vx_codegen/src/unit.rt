@@ -7,7 +7,7 @@ ghost use Rattle.vx_codegen.specs.Ungrouped.{ungrouped, stretch_piece, stretches
 use sqlite_items::Items;
 use std::alloc::{AllocError, Global};
 use std::marker::Model;
-use vx_image::{spell_i128, spell_u8, spell_u32, spell_u128};
+use vx_image::{spell_i128, spell_u8, spell_u32};
 use vx_node::{Piece, Symbol};
 
 /// A unit while it is spelled, from the left. Contracts see the bytes and names that it has so far.
@@ -73,13 +73,6 @@ impl Unit {
         ensures { OnOk result (self.new ≡ self.old ++ bytes (integer n.now)) }
     {
         spell_i128(n, &mut self.tail)
-    }
-
-    /// Appends a mask of 16 bytes.
-    pub fn mask(&mut self, bits: u128) -> Result<(), AllocError>
-        ensures { OnOk result (self.new ≡ self.old ++ bytes (number 16 bits)) }
-    {
-        spell_u128(bits, &mut self.tail)
     }
 
     /// Appends a name.

@@ -12,6 +12,7 @@ units_spelled = record {
   shape = refl;
   no_slots = refl;
   test = refl;
+  names = refl;
   table = refl;
   no_methods = refl;
   code = refl;

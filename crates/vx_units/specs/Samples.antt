@@ -22,7 +22,7 @@ use Rattle.vx_compilation.specs.declared.tree.Act.TheVariants as a
 use Rattle.vx_compilation.specs.Binding.{Order}
 use Rattle.vx_units.specs.ShapeUnit.{shape_unit}
 use Rattle.vx_units.specs.CodeUnit.{code_unit}
-use Rattle.vx_units.specs.TestUnit.{test_unit}
+use Rattle.vx_units.specs.TestUnit.{all_tested, test_unit}
 use Rattle.vx_units.specs.TableUnit.{Split, table_unit}
 
 abbrev zeros : ℕ → Bytes
@@ -41,7 +41,7 @@ field key = pieces.Symbol (symbols.Field key)
 abbrev object : Bytes → Piece
 object x = pieces.Symbol (symbols.Object x)
 
--- ---- a table of four rows: account (by itself and savings), rich below it, any with a primitive, and a getter
+-- ---- a table of three rows: a method of account that is cloned, a primitive on any, and a getter of the predicate rich
 
 abbrev report : Bytes → MethodKey
 report x = record { selector = record { name = codes "report"; arity = 1 }; specialisers = x ∷ [] }
@@ -64,9 +64,6 @@ abbrev clone : Bytes → Piece
 clone x = pieces.Symbol (symbols.Code (report (codes "account")) (c.Clone 0 x))
 
 -- ---- a code of two blocks
-
-abbrev more : MethodKey
-more = record { selector = record { name = codes "more"; arity = 2 }; specialisers = codes "account" ∷ any ∷ [] }
 
 abbrev plus : Selector
 plus = record { name = codes "+"; arity = 2 }
@@ -100,6 +97,10 @@ pub record UnitsAreSpelled : Type 0 where
       (q.Not (q.Compare (codes "debt") AtLeast (pos 7)) ∷ q.Compare (codes "balance") Less (pos 1) ∷ []) ≡
       pieces.Bytes (0 ∷ 0 ∷ 0 ∷ 1 ∷ 0 ∷ 0 ∷ 0 ∷ 2 ∷ []) ∷ object (codes "account") ∷ field balance ∷
       pieces.Bytes (255 ∷ 255 ∷ 255 ∷ 255 ∷ 0 ∷ 0 ∷ 0 ∷ 46 ∷ 0 ∷ 3 ∷ 0 ∷ 0 ∷ 0 ∷ 1 ∷ zeros 15 ++ (7 ∷ 3 ∷ 0 ∷ 0 ∷ zeros 4 ++ (zeros 15 ++ (1 ∷ 1 ∷ [])))) ∷ []
+  -- the names that tests ask about, in byte order, each once
+  pub names : all_tested (q.Or (q.Compare (codes "owner") Less (pos 1)) (q.Not (q.Compare (codes "balance") AtLeast (pos 1))) ∷
+      q.And (q.Compare (codes "debt") AtLeast (pos 7)) (q.Compare (codes "balance") Less (pos 1)) ∷ []) []
+      ≡ codes "balance" ∷ codes "debt" ∷ codes "owner" ∷ []
   pub table : table_unit (record { name = codes "report"; arity = 1 }) order clones
       ((report (codes "account"), kinds.Source) ∷ (report any, kinds.Prim 9) ∷ (report (codes "rich"), kinds.Get balance) ∷ []) ≡
       pieces.Bytes (6 ∷ codes "report" ++ (1 ∷ 3 ∷ 0 ∷ [])) ∷ code (report (codes "account")) ∷ pieces.Bytes (0 ∷ 2 ∷ []) ∷
